@@ -32,7 +32,7 @@ fn counted_entries(journal: &[Entry]) -> usize
 
 /// The counted part of the journal that has these moves, and the state that it leads to. If the moves are not all legal, it
 /// returns the number of the first that is not, counted from 1, and why it is not.
-pub(crate) fn counted_run(
+pub fn counted_run(
     alloc: Global,
     p: &Prog,
     lim: Limits,

@@ -10,5 +10,6 @@ mod laws;
 mod totals;
 
 pub use advising::{Advice, advise, parallelism_of};
+pub use counting::counted_run;
 pub use laws::{greedy_workers_are_fast, no_workers_are_faster, paced_workers_are_fast};
 pub use totals::{TaskTotal, TaskWork, total_of};

@@ -1,5 +1,6 @@
 pub mod Agreeing
 pub mod Counted
+pub mod EntryRecords
 pub mod Explained
 pub mod FuelTaken
 pub mod Keyed

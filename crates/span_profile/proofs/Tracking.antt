@@ -118,7 +118,7 @@ module _ (p : Program) (well : IsWellFormed p) where
   entry_kind places st Run t None e row is deed watched many did = absurd (cc)
   entry_kind places st Run t (Some other) e row is deed watched many did = entry_segment places st t other deed watched many (did other e)
 
-  shows_kind : (places : Places) (are : ArePlaces p places) (st : State) (kind : Kind) (t : ℕ) (found : Option TaskRow) → slice_get st.tasks t ≡ found → (row : TaskRow) → found ≡ Some row
+  pub shows_kind : (places : Places) (are : ArePlaces p places) (st : State) (kind : Kind) (t : ℕ) (found : Option TaskRow) → slice_get st.tasks t ≡ found → (row : TaskRow) → found ≡ Some row
       → (deed : Deed) (watched : Watched) → length st.cells ≡ cell_count p → DidKind p st kind t deed watched → Shows are.nodes (node_of places deed watched) (strand_by_kind p st kind t found deed.end)
   shows_kind places are st Admit t found e row is deed watched many did = shows_admission places are st t deed watched many did
   shows_kind places are st Run t None e row is deed watched many did = absurd (cc)

@@ -159,7 +159,7 @@ fn count_entry(
 }
 
 /// Takes a legal move, and returns what it did.
-fn advance(
+pub(crate) fn advance(
     alloc: Global,
     p: &Prog,
     lim: Limits,

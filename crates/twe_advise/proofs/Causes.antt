@@ -6,6 +6,7 @@ use Rattle.twe_program.specs.Program.{Program}
 use Rattle.twe_io.specs.declared.answer.Answer.{Answer}
 use Rattle.twe_io.specs.declared.status.Status.TheVariants.{Done}
 use Rattle.twe_io.specs.Answers.{on_out}
+use Rattle.held_span.specs.HeldSpans.{IsHeldSpan}
 use Rattle.run_advice.specs.Advice.{AreMadeTasks, IsAdvice}
 use Rattle.run_advice.specs.declared.advising.Advice.{Advice}
 use Rattle.span_profile.specs.Profiles.{HasEarliest}
@@ -18,24 +19,24 @@ use Rattle.twe_advise.specs.Forms.{advice_text}
 use Rattle.twe_advise.specs.inner.Given.{AdvisedBy}
 
 -- the parts of an answer with advice
-pub advised_by : (form : Form) (p : Program) (advice : Advice) (starts ends : List ℕ) (paces slice : List Pace) (text : List ℕ) (answer : Answer) → starts ≡ advice.profile.starts → ends ≡ advice.profile.ends
+pub advised_by : (form : Form) (p : Program) (advice : Advice) (held : ℕ) (starts ends : List ℕ) (paces slice : List Pace) (text : List ℕ) (answer : Answer) → starts ≡ advice.profile.starts → ends ≡ advice.profile.ends
     → ArePaces starts ends worker_counts paces → slice ≡ paces
-    → text ≡ advice_text form p advice.profile.work advice.profile.span slice advice.works advice.tasks advice.profile.starts advice.steps → answer ≡ on_out Done text
-    → AdvisedBy form p advice answer
-advised_by form p advice starts ends paces slice text answer starts_are ends_are are same is answer_is = (
+    → text ≡ advice_text form p advice.profile.work advice.profile.span held slice advice.works advice.tasks advice.profile.starts advice.steps → answer ≡ on_out Done text
+    → AdvisedBy form p advice held answer
+advised_by form p advice held starts ends paces slice text answer starts_are ends_are are same is answer_is = (
   paces,
   subst (λ (s : List ℕ). ArePaces s advice.profile.ends worker_counts paces) starts_are (subst (λ (e : List ℕ). ArePaces starts e worker_counts paces) ends_are are),
   answer_is
       ∙ ap (on_out Done)
-      (is ∙ ap (λ (l : List Pace). advice_text form p advice.profile.work advice.profile.span l advice.works advice.tasks advice.profile.starts advice.steps) same),
+      (is ∙ ap (λ (l : List Pace). advice_text form p advice.profile.work advice.profile.span held l advice.works advice.tasks advice.profile.starts advice.steps) same),
 )
 
 -- an answer with the advice of these moves is the one that is due to them
-pub advice_given : (form : Form) (p : Program) (lim : Bounds) (moves : List Move) (advice : Advice) (answer : Answer)
+pub advice_given : (form : Form) (p : Program) (lim : Bounds) (moves : List Move) (advice : Advice) (held : ℕ) (answer : Answer)
     → IsAdvice p lim moves advice.profile.work advice.profile.span advice.profile.chain advice.works → HasSteps p lim moves advice.profile.chain advice.steps
     → AreMadeTasks p lim moves advice.tasks → HasEarliest p lim moves advice.profile.span advice.profile.starts advice.profile.ends
-    → AdvisedBy form p advice answer → AdviceGiven form p lim moves answer
-advice_given form p lim moves advice answer is steps tasks early advised =
+    → IsHeldSpan p lim moves held → AdvisedBy form p advice held answer → AdviceGiven form p lim moves answer
+advice_given form p lim moves advice held answer is steps tasks early holds advised =
     let h = advice.profile in
     subst (AdviceGiven form p lim moves) (sym advised.2)
-    (AdviceGiven.advised h.work h.span h.chain advice.works advice.steps advice.tasks h.starts h.ends advised.0 is steps tasks early advised.1)
+    (AdviceGiven.advised h.work h.span held h.chain advice.works advice.steps advice.tasks h.starts h.ends advised.0 is steps tasks early advised.1 holds)

@@ -4,6 +4,9 @@ use Rattle.std.proofs.Common.{◌≡◌, ◌++◌, ℕ, List, ap, ◌∙◌, app
 pub two_pieces : (old a b first last : List ℕ) → first ≡ old ++ a → last ≡ first ++ b → last ≡ old ++ (a ++ b)
 two_pieces old a b first last is_first is_last = is_last ∙ (ap (λ (l : List ℕ). l ++ b) is_first ∙ append_assoc old a b)
 
+pub three_left : (old a b c first second last : List ℕ) → first ≡ old ++ a → second ≡ first ++ b → last ≡ second ++ c → last ≡ old ++ ((a ++ b) ++ c)
+three_left old a b c first second last is_first is_second is_last = two_pieces old (a ++ b) c second last (two_pieces old a b first second is_first is_second) is_last
+
 pub three_right : (old a b c first second last : List ℕ) → first ≡ old ++ a → second ≡ first ++ b → last ≡ second ++ c → last ≡ old ++ (a ++ (b ++ c))
 three_right old a b c first second last is_first is_second is_last =
     two_pieces old a (b ++ c) first last is_first (two_pieces first b c second last is_second is_last)

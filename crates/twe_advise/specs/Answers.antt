@@ -14,6 +14,7 @@ use Rattle.twe_machine.specs.declared.state.TaskRow.{TaskRow}
 use Rattle.span_profile.specs.Profiles.{HasEarliest}
 use Rattle.span_profile.specs.Reasons.{HasSteps}
 use Rattle.span_profile.specs.declared.reasons.ChainStep.{ChainStep}
+use Rattle.held_span.specs.HeldSpans.{IsHeldSpan}
 use Rattle.run_advice.specs.Advice.{AreMadeTasks, IsAdvice}
 use Rattle.run_advice.specs.declared.totals.TaskWork.{TaskWork}
 use Rattle.twe_advise.specs.declared.words.Form.{Form}
@@ -25,10 +26,11 @@ use Rattle.twe_advise.specs.Words.{advise_usage_text, form_of}
 -- The answer, in this form, to legal moves of an accepted program under these limits.
 pub data AdviceGiven (form : Form) (p : Program) (lim : Bounds) (moves : List Move) : Answer → Type 0 where
   -- what the run could gain is written, and why the entries of its heaviest chain follow one another
-  advised : (work span : ℕ) (chain : List ℕ) (works : List TaskWork) (steps : List ChainStep) (tasks : List TaskRow)
+  advised : (work span held : ℕ) (chain : List ℕ) (works : List TaskWork) (steps : List ChainStep) (tasks : List TaskRow)
       (starts ends : List ℕ) (paces : List Pace) → IsAdvice p lim moves work span chain works → HasSteps p lim moves chain steps
       → AreMadeTasks p lim moves tasks → HasEarliest p lim moves span starts ends → ArePaces starts ends worker_counts paces
-      → AdviceGiven form p lim moves (on_out Done (advice_text form p work span paces works tasks starts steps))
+      → IsHeldSpan p lim moves held
+      → AdviceGiven form p lim moves (on_out Done (advice_text form p work span held paces works tasks starts steps))
 
 -- the answer to an input, in this form: to the text of a program, and after the first line that is exactly `%%` the text of a
 -- journal

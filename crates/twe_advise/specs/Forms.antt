@@ -12,10 +12,11 @@ use Rattle.twe_advise.specs.declared.paces.Pace.{Pace}
 use Rattle.twe_advise.specs.declared.words.Form.{Form}
 use Rattle.twe_advise.specs.declared.words.Form.TheVariants.{Tables, Json}
 
--- What is written of a run with this work and this span, whose paced timetables and whose tasks took this, which has made these
--- tasks, whose entries begin at these times at the earliest, and the entries of whose heaviest chain follow one another so.
-abbrev pub advice_text : Form → Program → ℕ → ℕ → List Pace → List TaskWork → List TaskRow → List ℕ → List ChainStep → List ℕ
-advice_text Tables p work span paces works tasks starts steps =
-    tables_text p.tasks work span paces works ++ chain_text p tasks starts steps
-advice_text Json p work span paces works tasks starts steps =
-    json_text p.tasks work span paces works (json_steps p tasks starts 0 steps)
+-- What is written of a run with this work, this span and this held span, whose paced timetables and whose tasks took this, which
+-- has made these tasks, whose entries begin at these times at the earliest, and the entries of whose heaviest chain follow one
+-- another so.
+abbrev pub advice_text : Form → Program → ℕ → ℕ → ℕ → List Pace → List TaskWork → List TaskRow → List ℕ → List ChainStep → List ℕ
+advice_text Tables p work span held paces works tasks starts steps =
+    tables_text p.tasks work span held paces works ++ chain_text p tasks starts steps
+advice_text Json p work span held paces works tasks starts steps =
+    json_text p.tasks work span held paces works (json_steps p tasks starts 0 steps)

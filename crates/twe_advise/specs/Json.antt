@@ -1,5 +1,5 @@
 -- What is written as JSON: one object, on one line. Names of tasks are identifiers, so nothing in them has to be escaped.
-use Rattle.std.specs.Prelude.{◌++◌, ◌==◌, ℕ, List, [], ◌∷◌, codes, if◌then◌else◌}
+use Rattle.std.specs.Prelude.{◌-◌, ◌++◌, ◌==◌, ℕ, List, [], ◌∷◌, codes, if◌then◌else◌}
 use Rattle.std.specs.List.{flat_map}
 use Rattle.twe_program.specs.declared.program.Decl.{Decl}
 use Rattle.schedule_bounds.specs.Schedules.{least_time}
@@ -15,6 +15,10 @@ unfoldable pub json_head : ℕ → ℕ → List ℕ
 json_head work span =
     (word_number (codes "{\"work\":") work ++ word_number (codes ",\"span\":") span)
     ++ (codes ",\"parallelism\":" ++ hundredths_text (parallelism_of work span))
+
+-- `,"held_span":8,"held_longer_by":2`
+unfoldable pub json_held : ℕ → ℕ → List ℕ
+json_held span held = word_number (codes ",\"held_span\":") held ++ word_number (codes ",\"held_longer_by\":") (held - span)
 
 -- `{"workers":2,"least":6,"paced":6}`
 abbrev pub json_time : ℕ → ℕ → Pace → List ℕ
@@ -54,7 +58,7 @@ abbrev pub json_tasks : List TaskWork → ℕ → List Decl → List ℕ
 json_tasks works number decls = rows_by (json_task_of works) number decls
 
 -- the object, with these objects of the chain
-abbrev pub json_text : List Decl → ℕ → ℕ → List Pace → List TaskWork → List ℕ → List ℕ
-json_text decls work span paces works chain =
-    (((((json_head work span ++ json_times work span paces) ++ codes "],\"tasks\":[") ++ json_tasks works 0 decls)
+abbrev pub json_text : List Decl → ℕ → ℕ → ℕ → List Pace → List TaskWork → List ℕ → List ℕ
+json_text decls work span held paces works chain =
+    ((((((json_head work span ++ json_held span held) ++ json_times work span paces) ++ codes "],\"tasks\":[") ++ json_tasks works 0 decls)
     ++ codes "],\"chain\":[") ++ chain) ++ codes "]}\n"

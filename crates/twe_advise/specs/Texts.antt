@@ -1,5 +1,5 @@
 -- The texts that are written. Each line ends with byte 10.
-use Rattle.std.specs.Prelude.{◌/◌, ◌%◌, ◌++◌, ℕ, suc, List, [], ◌∷◌, codes, decimal, drop, length, min}
+use Rattle.std.specs.Prelude.{◌-◌, ◌/◌, ◌%◌, ◌++◌, ℕ, suc, List, [], ◌∷◌, codes, decimal, drop, length, min}
 use Rattle.std.specs.List.{flat_map}
 use Rattle.twe_program.specs.declared.program.Decl.{Decl}
 use Rattle.schedule_bounds.specs.Schedules.{least_time}
@@ -26,6 +26,12 @@ unfoldable pub head_text : ℕ → ℕ → List ℕ
 head_text work span =
     (word_number (codes "work ") work ++ word_number (codes ", span ") span)
     ++ ((codes ", parallelism " ++ hundredths_text (parallelism_of work span)) ++ codes "\n")
+
+-- the held span, and how much longer it is than the span
+unfoldable pub held_text : ℕ → ℕ → List ℕ
+held_text span held =
+    (word_number (codes "held span ") held ++ word_number (codes ", longer by ") (held - span))
+    ++ codes ": what effects wider than the accesses cost, and running ahead could win\n"
 
 -- so many workers, the least time of a schedule with them, and the time of the paced timetable
 abbrev pub time_row : ℕ → ℕ → Pace → List ℕ
@@ -59,6 +65,7 @@ times_text work span paces = codes "\n     workers  least time  paced time\n" ++
 unfoldable pub tasks_text : List TaskWork → List Decl → List ℕ
 tasks_text works decls = codes "\n       tasks        work    heaviest  name\n" ++ task_rows works 0 decls
 
--- what is written as tables: work, span and parallelism, the times, and the tasks
-abbrev pub tables_text : List Decl → ℕ → ℕ → List Pace → List TaskWork → List ℕ
-tables_text decls work span paces works = (head_text work span ++ times_text work span paces) ++ tasks_text works decls
+-- what is written as tables: work, span and parallelism, the held span, the times, and the tasks
+abbrev pub tables_text : List Decl → ℕ → ℕ → ℕ → List Pace → List TaskWork → List ℕ
+tables_text decls work span held paces works =
+    ((head_text work span ++ held_text span held) ++ times_text work span paces) ++ tasks_text works decls

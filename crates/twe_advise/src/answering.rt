@@ -10,6 +10,7 @@ ghost use Rattle.twe_advise.specs.inner.Given.{AdvisedBy};
 use crate::forms::advice_text;
 use crate::paces::paces_of;
 use crate::words::Form;
+use held_span::held_span;
 use run_advice::{Advice, advise};
 use seg_journal::{Limits, Move};
 use std::alloc::Global;
@@ -30,19 +31,26 @@ pub(crate) fn advice_answer(
     ensures illegal { (n : ℕ) (why : Why) → IsErrOf result (Illegal n why) → IsFirstIllegal p.now lim moves.now n why }
 {
     let advice = advise(alloc, p, lim, moves)?;
-    let answer = advised_answer(alloc, form, p, &advice)?;
+    let held = held_span(alloc, p, lim, moves)?;
+    let answer = advised_answer(alloc, form, p, &advice, held)?;
     Ok(answer)
 }
 
 /// The answer that has this advice, with the times of the paced timetables.
-fn advised_answer(alloc: Global, form: Form, p: &Prog, advice: &Advice) -> Result<Answer, Memory>
+fn advised_answer(
+    alloc: Global,
+    form: Form,
+    p: &Prog,
+    advice: &Advice,
+    held: u64,
+) -> Result<Answer, Memory>
     requires few { CanBeSummed advice.now.works }
     requires both { length advice.now.profile.ends ≡ length advice.now.profile.starts }
-    ensures { IfOk result (AdvisedBy form p.now advice.now) }
+    ensures { IfOk result (AdvisedBy form p.now advice.now held) }
 {
     let starts = advice.profile.starts.as_slice();
     let ends = advice.profile.ends.as_slice();
     let paces = paces_of(alloc, starts, ends, &[2, 4, 8, 16, 64])?;
-    let text = advice_text(alloc, form, p, advice, paces.as_slice())?;
+    let text = advice_text(alloc, form, p, advice, held, paces.as_slice())?;
     Ok(Answer::on_out(alloc, Status::Done, text))
 }

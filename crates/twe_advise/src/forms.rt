@@ -5,10 +5,10 @@ ghost use Rattle.run_advice.specs.Totals.{CanBeSummed};
 ghost use Rattle.twe_advise.specs.Forms as forms;
 
 use crate::chains::push_chain_table;
-use crate::json::{push_json_head, push_json_tasks, push_json_times};
+use crate::json::{push_json_head, push_json_held, push_json_tasks, push_json_times};
 use crate::json_chains::push_json_steps;
 use crate::paces::Pace;
-use crate::text::{push_head, push_tasks_table, push_times_table};
+use crate::text::{push_head, push_held, push_tasks_table, push_times_table};
 use crate::words::Form;
 use run_advice::Advice;
 use std::alloc::Global;
@@ -21,12 +21,13 @@ pub(crate) fn advice_text(
     form: Form,
     p: &Prog,
     advice: &Advice,
+    held: u64,
     paces: &[Pace],
 ) -> Result<Bytes, Memory>
     requires few { CanBeSummed advice.now.works }
     requires some { All (λ pace. 0 < pace.workers) paces.now }
     ensures { IfOk result (λ text. text
-        ≡ forms.advice_text form p.now advice.now.profile.work advice.now.profile.span paces.now advice.now.works
+        ≡ forms.advice_text form p.now advice.now.profile.work advice.now.profile.span held paces.now advice.now.works
         advice.now.tasks advice.now.profile.starts advice.now.steps) }
 {
     let (work, span) = (advice.profile.work, advice.profile.span);
@@ -37,12 +38,14 @@ pub(crate) fn advice_text(
     match form {
         Form::Tables => {
             push_head(&mut text, work, span)?;
+            push_held(&mut text, span, held)?;
             push_times_table(&mut text, work, span, paces)?;
             push_tasks_table(&mut text, works, decls)?;
             push_chain_table(&mut text, p, tasks, starts, steps)?;
         }
         Form::Json => {
             push_json_head(&mut text, work, span)?;
+            push_json_held(&mut text, span, held)?;
             push_json_times(&mut text, work, span, paces)?;
             text.push_all(b"],\"tasks\":[")?;
             push_json_tasks(&mut text, works, decls)?;

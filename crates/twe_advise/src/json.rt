@@ -2,7 +2,7 @@
 ghost use Rattle.std.specs.Prelude.{◌≡◌, ◌<◌, ◌++◌, OnOk};
 ghost use Rattle.std.specs.List.{All, flat_map};
 ghost use Rattle.run_advice.specs.Totals.{CanBeSummed};
-ghost use Rattle.twe_advise.specs.Json.{comma_before, json_head, json_next_time, json_paces, json_tasks, json_time, json_times};
+ghost use Rattle.twe_advise.specs.Json.{comma_before, json_head, json_held, json_next_time, json_paces, json_tasks, json_time, json_times};
 ghost use Rattle.twe_advise.specs.Json as json;
 ghost use Rattle.twe_advise.specs.Texts.{word_number};
 
@@ -28,6 +28,14 @@ pub(crate) fn push_json_head(text: &mut Bytes, work: u64, span: u64) -> Result<(
     push_small(text, b",\"span\":", span)?;
     text.push_all(b",\"parallelism\":")?;
     push_hundredths(text, parallelism_of(work, span))
+}
+
+/// Appends the held span, and how much longer it is than the span.
+pub(crate) fn push_json_held(text: &mut Bytes, span: u64, held: u64) -> Result<(), Memory>
+    ensures { OnOk result (text.new ≡ text.old ++ json_held span held) }
+{
+    push_small(text, b",\"held_span\":", held)?;
+    push_small(text, b",\"held_longer_by\":", held.saturating_sub(span))
 }
 
 /// Appends the times with so many workers.

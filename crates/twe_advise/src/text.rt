@@ -2,7 +2,7 @@
 ghost use Rattle.std.specs.Prelude.{◌≡◌, ◌<◌, ◌++◌, IfOk, OnOk};
 ghost use Rattle.std.specs.List.{All, flat_map};
 ghost use Rattle.run_advice.specs.Totals.{CanBeSummed};
-ghost use Rattle.twe_advise.specs.Texts.{head_text, hundredths_text, number_column, task_rows, tasks_text, time_row, times_text, word_number};
+ghost use Rattle.twe_advise.specs.Texts.{head_text, held_text, hundredths_text, number_column, task_rows, tasks_text, time_row, times_text, word_number};
 ghost use Rattle.twe_advise.specs.Texts as texts;
 ghost use Rattle.twe_advise.specs.Words.{advise_usage_text};
 
@@ -59,6 +59,15 @@ pub(crate) fn push_head(text: &mut Bytes, work: u64, span: u64) -> Result<(), Me
     text.push_all(b", parallelism ")?;
     push_hundredths(text, parallelism_of(work, span))?;
     text.push_all(b"\n")
+}
+
+/// Appends the held span, and how much longer it is than the span.
+pub(crate) fn push_held(text: &mut Bytes, span: u64, held: u64) -> Result<(), Memory>
+    ensures { OnOk result (text.new ≡ text.old ++ held_text span held) }
+{
+    push_number(text, b"held span ", u128::from(held))?;
+    push_number(text, b", longer by ", u128::from(held.saturating_sub(span)))?;
+    text.push_all(b": what effects wider than the accesses cost, and running ahead could win\n")
 }
 
 /// Appends a number of 64 bits at the right of a column.

@@ -1,5 +1,5 @@
 -- An answer that has given advice.
-use Rattle.std.specs.Prelude.{◌≡◌, List}
+use Rattle.std.specs.Prelude.{◌≡◌, ℕ, List}
 use Rattle.twe_io.specs.Answers.{on_out}
 use Rattle.twe_io.specs.declared.answer.Answer.{Answer}
 use Rattle.twe_io.specs.declared.status.Status.TheVariants.{Done}
@@ -11,8 +11,8 @@ use Rattle.twe_advise.specs.Paces.{ArePaces, worker_counts}
 use Rattle.twe_advise.specs.declared.words.Form.{Form}
 
 -- the answer has this advice in this form, with the times of the paced timetables
-abbrev pub AdvisedBy : Form → Program → Advice → Answer → Type 0
-AdvisedBy form p advice answer =
+abbrev pub AdvisedBy : Form → Program → Advice → ℕ → Answer → Type 0
+AdvisedBy form p advice held answer =
     (paces : List Pace) × ArePaces advice.profile.starts advice.profile.ends worker_counts paces
-    × (answer ≡ on_out Done (advice_text form p advice.profile.work advice.profile.span paces
+    × (answer ≡ on_out Done (advice_text form p advice.profile.work advice.profile.span held paces
     advice.works advice.tasks advice.profile.starts advice.steps))

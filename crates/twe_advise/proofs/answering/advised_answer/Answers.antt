@@ -3,5 +3,5 @@ use Rattle.twe_advise.proofs.answering.advised_answer.Goals as goal
 
 pub returns : goal.returns
 returns c =
-    advised_by c.args.form c.args.p.now c.args.advice.now c.as_slice-starts.result.now c.as_slice-ends.result.now c.in_ok-paces.paces c.as_slice.result.now c.in_ok-text.text c.on_out.result
+    advised_by c.args.form c.args.p.now c.args.advice.now c.args.held c.as_slice-starts.result.now c.as_slice-ends.result.now c.in_ok-paces.paces c.as_slice.result.now c.in_ok-text.text c.on_out.result
     c.as_slice-starts.ensures c.as_slice-ends.ensures c.in_ok-paces.ensures.are c.as_slice.ensures c.in_ok-text.ensures c.on_out.ensures

@@ -1,0 +1,5 @@
+pub mod Sharing
+pub mod Longer
+pub mod Placing
+pub mod Climbing
+pub mod Rivalry

@@ -1,0 +1,4 @@
+pub mod Gathering
+pub mod Marks
+pub mod Rivals
+pub mod Tables

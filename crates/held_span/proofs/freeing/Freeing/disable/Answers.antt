@@ -1,0 +1,7 @@
+use Rattle.std.proofs.Common.{◌∙◌}
+use Rattle.held_span.proofs.Numbered.{left_for}
+use Rattle.held_span.proofs.freeing.Freeing.disable.Goals as goal
+
+pub leave-requires : goal.leave-requires
+leave-requires c =
+    left_for c.args.marks.now c.requires.numbered c.args.t c.args.self.now.holders c.requires.room c.as_slice.result.now (c.as_slice.ensures ∙ c.in_ok-left.ensures)

@@ -1,0 +1,12 @@
+use Rattle.std.proofs.Common.{◌≡◌, ◌↔◌, ◌⊎◌, ℕ, take}
+use Rattle.std.specs.List.{Contains}
+use Rattle.effect_marks.specs.declared.marks.EffectMark.{EffectMark}
+use Rattle.held_span.specs.inner.Holding.{Holds, KeepsRoom}
+use Rattle.held_span.proofs.holders.Holders.enter.Given as goal
+
+-- the task leaves the marks up to here
+abbrev pub invariant-loop-mark : goal.invariant-loop-mark
+invariant-loop-mark l = record {
+  room : KeepsRoom l.fn.self l.self;
+  entered : (m : EffectMark) (t : ℕ) → Holds l.self m t ↔ (Holds l.fn.self m t ⊎ ((t ≡ l.task) × Contains (take l.mark-index l.marks) m));
+}

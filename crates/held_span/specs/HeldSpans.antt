@@ -1,0 +1,22 @@
+-- The held span of a list of moves: the span of their order, in which an admission also follows what freed it.
+use Rattle.std.specs.Prelude.{◌≡◌, ◌≤◌, ℕ, List}
+use Rattle.seg_journal.specs.declared.journal.Entry.{Entry}
+use Rattle.seg_journal.specs.declared.moves.Move.{Move}
+use Rattle.twe_base.specs.Limits.{Bounds}
+use Rattle.twe_program.specs.Program.{Program}
+use Rattle.twe_machine.specs.declared.state.State.{State}
+use Rattle.span_profile.specs.heaviest_chain.Chains.{IsChainOf, chain_weight}
+use Rattle.run_advice.specs.Advice.{IsCountedRun}
+use Rattle.held_span.specs.Freed.{FollowsFreed, stage_weight, stages}
+
+-- Of the entries that count of the legal journal with these moves, the chain is one each of which the next one follows, where an
+-- admission also follows what freed it. It weighs the span, and no chain is heavier.
+pub record IsHeldSpan (p : Program) (lim : Bounds) (moves : List Move) (span : ℕ) : Type 0 where
+  pub journal : List Entry
+  pub st : State
+  pub run : IsCountedRun p lim moves journal st
+  pub chain : List ℕ
+  pub chain_is : IsChainOf (FollowsFreed st.tasks) (stages p lim journal) chain
+  pub weighs : chain_weight stage_weight (stages p lim journal) chain ≡ span
+  pub heaviest : (other : List ℕ) → IsChainOf (FollowsFreed st.tasks) (stages p lim journal) other
+      → chain_weight stage_weight (stages p lim journal) other ≤ span

@@ -1,0 +1,4 @@
+pub mod Freed
+pub mod HeldSpans
+pub mod Ways
+pub mod inner

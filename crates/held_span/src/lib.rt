@@ -1,0 +1,16 @@
+//! The held span of a journal: that of its order in which an admission also follows what freed it.
+//!
+//! While a task is enabled, it holds each task that is made and whose effects interfere with its own, until it ends or comes to
+//! wait for that one. `specs/` says which entries free an admission. The held span less the span of `span_profile` is what the
+//! declared effects cost beyond what the tasks did.
+#![tactic(auto)]
+
+mod freeing;
+mod holders;
+mod keys;
+mod laws;
+mod spanning;
+mod ways;
+
+pub use laws::the_held_span_is_between;
+pub use spanning::held_span;

@@ -1,0 +1,123 @@
+//! The held span of a list of moves.
+ghost use Rattle.std.specs.Prelude.{◌≡◌, ◌<◌, ◌++◌, [], ◌∷◌, ℕ, List as AnyList, Some, IfOk, IsErrOf, IsTrue, OnOk, slice_get};
+ghost use Rattle.effect_sets.specs.Filled.{all_filled};
+ghost use Rattle.seg_journal.specs.declared.journal.End.{End};
+ghost use Rattle.seg_journal.specs.declared.journal.Entry.{Entry};
+ghost use Rattle.twe_machine.specs.declared.legal.Why.{Why as Reason};
+ghost use Rattle.twe_machine.specs.declared.replaying.ReplayFail.TheVariants.{Illegal};
+ghost use Rattle.twe_machine.specs.declared.state.TaskRow.{TaskRow as AnyRow};
+ghost use Rattle.twe_machine.specs.Replays.{IsFirstIllegal};
+ghost use Rattle.effect_marks.specs.Gathering.{AreGathered};
+ghost use Rattle.effect_marks.specs.Marks.{AreMarksOf};
+ghost use Rattle.held_span.specs.HeldSpans.{IsHeldSpan};
+ghost use Rattle.held_span.specs.inner.Freeing.{AreNumbered};
+ghost use Rattle.held_span.specs.inner.Spanning.{IsPlan, IsSpanning, effect_lists};
+
+use crate::freeing::Freeing;
+use crate::keys::number_keys;
+use effect_marks::{EffectMarks, Gathered};
+use run_advice::counted_run;
+use seg_journal::{Limits, Move};
+use span_profile::Recorder;
+use span_profile::heaviest_chain::Chains;
+use std::alloc::Global;
+use twe_base::Memory;
+use twe_machine::{ReplayFail, State, TaskRow, start};
+use twe_program::Prog;
+
+/// A run under way, with the chains of its entries.
+#[derive(Debug, Drop)]
+struct Spanning {
+    st: State,
+    recorder: Recorder,
+    freeing: Freeing,
+    chains: Chains,
+}
+
+/// The lists of effects of the tasks with these rows.
+fn gathered_of(alloc: Global, p: &Prog, rows: &[TaskRow]) -> Result<Gathered, Memory>
+    requires { (t : ℕ) (row : AnyRow) → slice_get rows.now t ≡ Some row → IsTrue (all_filled row.effects.effects) }
+    ensures { IfOk result (AreGathered (effect_lists rows.now)) }
+{
+    let mut gathered = Gathered::new(alloc, p)?;
+    for row in rows {
+        gathered.add(alloc, row.effects.effects.as_slice())?;
+    }
+    Ok(gathered)
+}
+
+/// The marks for the effects of the tasks with these rows. 32 bits can number the tasks and the effects together.
+fn marks_of(alloc: Global, p: &Prog, rows: &[TaskRow]) -> Result<EffectMarks, Memory>
+    requires { (t : ℕ) (row : AnyRow) → slice_get rows.now t ≡ Some row → IsTrue (all_filled row.effects.effects) }
+    ensures marks { IfOk result (AreMarksOf (effect_lists rows.now)) }
+    ensures numbered { IfOk result AreNumbered }
+{
+    let gathered = gathered_of(alloc, p, rows)?;
+    let marks = gathered.into_marks(alloc)?;
+    number_keys(alloc, marks.lists.len(), marks.rivals.len())?;
+    Ok(marks)
+}
+
+impl Spanning {
+    /// The start of a run for whose tasks there are these marks.
+    fn start(alloc: Global, p: &Prog, lim: Limits, marks: &EffectMarks) -> Result<Self, Memory>
+        ensures { (rows : AnyList AnyRow) (journal : AnyList Entry) → IsPlan p.now lim marks.now rows journal
+            → IfOk result (IsSpanning p.now lim marks.now rows [] journal) }
+    {
+        let _main = p.main;
+        let st = start(alloc, p, lim)?;
+        let cells = st.cells.len();
+        Ok(Spanning {
+            st,
+            recorder: Recorder::new(alloc, p, cells)?,
+            freeing: Freeing::new(alloc, marks)?,
+            chains: Chains::new(alloc),
+        })
+    }
+
+    /// Takes the next entry of a run for whose tasks there are these marks.
+    fn take(
+        &mut self,
+        alloc: Global,
+        p: &Prog,
+        lim: Limits,
+        marks: &EffectMarks,
+        mv: Move,
+    ) -> Result<(), Memory>
+        requires { (rows : AnyList AnyRow) × (before : AnyList Entry) × (end : End) × (rest : AnyList Entry)
+            × IsSpanning p.now lim marks.now rows before (record { mv = mv; end = end } ∷ rest) self.old }
+        ensures { (rows : AnyList AnyRow) (before : AnyList Entry) (end : End) (rest : AnyList Entry)
+            → IsSpanning p.now lim marks.now rows before (record { mv = mv; end = end } ∷ rest) self.old
+            → OnOk result (IsSpanning p.now lim marks.now rows (before ++ record { mv = mv; end = end } ∷ []) rest self.new) }
+    {
+        let _main = p.main;
+        let _tasks = lim.tasks;
+        let mut keys = self.recorder.take(alloc, p, lim, &mut self.st, mv)?;
+        self.freeing
+            .note(alloc, marks, &self.st, mv.task, &mut keys)?;
+        self.chains
+            .add(keys.weight, keys.asks.as_slice(), keys.gives.as_slice())
+    }
+}
+
+/// The held span of a run of the program under these limits that makes these moves: the weight of a heaviest chain of its
+/// entries, if an admission also follows what freed it. Entries after the first fault do not count, but their moves have to be
+/// legal too. If the moves are not all legal, it returns the number of the first that is not, counted from 1, and why it is not.
+///
+/// An admission is compared with those effects alone that are placed where its own are, above or below, and that interfere.
+pub fn held_span(alloc: Global, p: &Prog, lim: Limits, moves: &[Move]) -> Result<u64, ReplayFail>
+    ensures held { IfOk result (IsHeldSpan p.now lim moves.now) }
+    ensures illegal { (n : ℕ) (why : Reason) → IsErrOf result (Illegal n why) → IsFirstIllegal p.now lim moves.now n why }
+{
+    let _main = p.main;
+    let _tasks = lim.tasks;
+    let (journal, st) = counted_run(alloc, p, lim, moves)?;
+    let marks = marks_of(alloc, p, st.tasks.as_slice())?;
+    let mut run = Spanning::start(alloc, p, lim, &marks)?;
+    for entry in journal.as_slice() {
+        run.take(alloc, p, lim, &marks, entry.mv)?;
+    }
+    let Spanning { chains, .. } = run;
+    let heaviest = chains.heaviest(alloc)?;
+    Ok(heaviest.span)
+}
