@@ -23,7 +23,7 @@ words_for() {
     twe_annotate) echo ' matrix | write | compare [NAME]' ;;
     twe_batch) echo ' check | run' ;;
     twe_draw) echo ' [order | trace]' ;;
-    twe_explain) echo ' [--name FILE] [--lines] [--run [--fuel N] [--tasks N]] | --help | --version' ;;
+    twe_explain) echo ' [--name FILE] [--lines] [--all] [--run [--fuel N] [--tasks N]] | --help | --version' ;;
     twe_opt) echo ' k' ;;
   esac
 }
@@ -66,7 +66,7 @@ is_command() {
   esac
 }
 
-# Whether the words are `--name FILE`, `--lines` and `--run`, with `--fuel N` and `--tasks N` beside the last, each at most once, or
+# Whether the words are `--name FILE`, `--lines`, `--all` and `--run`, with `--fuel N` and `--tasks N` beside the last, each at most once, or
 # `--help` or `--version` alone.
 is_wish() {
   local given=' ' name
@@ -75,7 +75,7 @@ is_wish() {
     name=${1#--}
     [[ $given != *" $name "* ]] || return 1
     case $1 in
-      --lines | --run) ;;
+      --lines | --all | --run) ;;
       --name) (($# > 1)) && shift || return 1 ;;
       --fuel | --tasks) fits "$name" "${2-}" && shift || return 1 ;;
       *) return 1 ;;

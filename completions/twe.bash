@@ -60,7 +60,7 @@ _twe_draw() {
 }
 
 _twe_explain() {
-  local current=${COMP_WORDS[COMP_CWORD]} words=' --name --lines --run --fuel --tasks ' word given
+  local current=${COMP_WORDS[COMP_CWORD]} words=' --name --lines --all --run --fuel --tasks ' word given
   COMPREPLY=()
   [[ $current == -* ]] || return
   case ${COMP_WORDS[COMP_CWORD - 1]} in

@@ -29,6 +29,7 @@ complete -c twe_explain -n 'test (count (commandline -opc)) -eq 1' -l help -d 'w
 complete -c twe_explain -n 'test (count (commandline -opc)) -eq 1' -l version -d 'the version'
 complete -c twe_explain -n 'not __fish_contains_opt name' -l name -x -d 'the name that is shown before places'
 complete -c twe_explain -n 'not __fish_contains_opt lines' -l lines -d 'one line for each note, for editors'
+complete -c twe_explain -n 'not __fish_contains_opt all' -l all -d 'each rule on effects that fails, at each place'
 complete -c twe_explain -n 'not __fish_contains_opt run' -l run -d 'run the text, and say why the run goes no further'
 complete -c twe_explain -n 'not __fish_contains_opt fuel' -l fuel -x -d 'how much fuel each task has'
 complete -c twe_explain -n 'not __fish_contains_opt tasks' -l tasks -x -d 'how many tasks may be made'

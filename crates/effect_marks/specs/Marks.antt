@@ -27,8 +27,8 @@ seen_by marks list = flat_map (seen_marks marks) (numbers_in marks.lists list)
 abbrev pub SharesMark : EffectMarks → ℕ → ℕ → Type 0
 SharesMark marks a b = (mark : EffectMark) × Contains (left_by marks a) mark × Contains (seen_by marks b) mark
 
--- The marks are for these lists of effects. Distinct effects are numbered, each has its rivals, and of two that interfere one is a
--- rival of the other.
+-- The marks are for these lists of effects. Distinct effects are numbered, each has its rivals, and of two that interfere one is
+-- a rival of the other.
 pub record AreMarksOf (lists : List EffectList) (marks : EffectMarks) : Type 0 where
   pub effects : EffectList
   pub filled : AreFilled effects

@@ -33,8 +33,8 @@ indexes_below [] (c ∷ cs) = false
 indexes_below (bound ∷ bounds) [] = false
 indexes_below (bound ∷ bounds) (c ∷ cs) = stands_below bound c && indexes_below bounds cs
 
--- The paths meet at these elements with these indexes after them: the elements stand for the first part of a concrete path at which
--- they meet, and the indexes, each below its bound, are the rest of it.
+-- The paths meet at these elements with these indexes after them: the elements stand for the first part of a concrete path at
+-- which they meet, and the indexes, each below its bound, are the rest of it.
 pub record IsMetWithin (shared : ℕ) (p q : WrittenPath) (elems : List Elem) (bounds : List ℕ) (indexes : List Elem) : Type 0 where
   pub declared : ConcretePath
   pub numbers : ConcretePath

@@ -1,7 +1,7 @@
 //! Where two written paths meet: a concrete path that is in both for some values of their variables.
 //!
-//! The elements of both stand side by side in columns, one for each position of a concrete path. What has to hold for a column is a
-//! few equalities, which `task_matrix` solves.
+//! The elements of both stand side by side in columns, one for each position of a concrete path. What has to hold for a column is
+//! a few equalities, which `task_matrix` solves.
 #![tactic(auto)]
 
 mod aligned;

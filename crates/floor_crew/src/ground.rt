@@ -28,7 +28,8 @@ const MOST_TRIES: u32 = 16;
 pub(crate) struct Ground<'a, N: Named + Planted, F: Located> {
     setup: &'a Setup<'a>,
     floor: &'a Floor<N>,
-    // Whether the round is to end: some task has met a fault, or a worker has ended enough tasks. Then no worker begins a segment.
+    // Whether the round is to end: some task has met a fault, or a worker has ended enough tasks. Then no worker begins a
+    // segment.
     is_over: AtomicBool,
     // How many tasks of one worker are enough.
     tasks: u64,

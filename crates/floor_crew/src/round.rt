@@ -26,8 +26,8 @@ use twe_base::{List, Memory};
 use twe_rounds::{RoundProgress, Site, Team, deal};
 
 /// A round of so many workers: the run goes on a floor, on which they admit tasks and run segments at the same time, until they
-/// find no task that may go on or one of them has ended so many tasks. Returns the run after that, whose journal begins with the one
-/// from before.
+/// find no task that may go on or one of them has ended so many tasks. Returns the run after that, whose journal begins with the
+/// one from before.
 pub(crate) fn round<'a, N: Named + Planted + Send + Sync, R: Threads + Wait + Sync, G: Gate + Sync>(
     rt: &'a R,
     setup: &'a Setup<'a>,

@@ -92,7 +92,8 @@ impl Holders {
     fn add(&mut self, task: u32, mark: EffectMark) -> Result<(), Memory>
         requires { IsForMark self.old mark }
         ensures room { OnOk result (KeepsRoom self.old self.new) }
-        ensures added { OnOk result ((m : AnyMark) (t : ℕ) → (Holds self.new m t ↔ (Holds self.old m t ⊎ ((t ≡ task) × (m ≡ mark))))) }
+        ensures added { OnOk result ((m : AnyMark) (t : ℕ)
+            → (Holds self.new m t ↔ (Holds self.old m t ⊎ ((t ≡ task) × (m ≡ mark))))) }
     {
         match mark {
             EffectMark::Own(effect) => add(&mut self.own, effect, task),

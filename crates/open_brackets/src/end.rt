@@ -10,8 +10,8 @@ use crate::walk::open_at;
 use std::alloc::Global;
 use twe_base::{Memory, Place};
 
-/// The places of the brackets that are open where a text ends too early, the outermost first. `Memory` is also returned for a text
-/// of 2^32 - 1 bytes or more, whose places can't be counted.
+/// The places of the brackets that are open where a text ends too early, the outermost first. `Memory` is also returned for a
+/// text of 2^32 - 1 bytes or more, whose places can't be counted.
 pub fn open_at_end(alloc: Global, text: &[u8], end: Place) -> Result<OpenPlaces, Memory>
     requires { IsSyntaxFailure text.now S3 end }
     ensures { IfOk result (AreOpenAt text.now end) }

@@ -1,5 +1,5 @@
 -- One token more that is tried.
-use Rattle.std.proofs.Common.{◌≡◌, ℕ, List, [], ◌∷◌, ◌++◌}
+use Rattle.std.proofs.Common.{ℕ, List, [], ◌∷◌, ◌++◌}
 use Rattle.refusal_causes.specs.declared.next_tokens.NextToken.{NextToken}
 use Rattle.refusal_causes.specs.NextTokens.{AreNextAmong, BeginsAProgram, IsBroken, tried}
 

@@ -10,9 +10,12 @@ use Rattle.twe_program.specs.WellFormed.{DeclFits}
 use Rattle.cover_flow.specs.declared.answers.Points.{Points}
 use Rattle.cover_flow.specs.Flow.{IsFlowOf, is_among, may_at, surely_at}
 use Rattle.cover_flow.specs.Out.{MayBeOut, SurelyOut}
-use Rattle.effect_check.specs.declared.act.ActKind.TheVariants.{Make, Wait}
+use Rattle.effect_check.specs.declared.act.Act.{Act}
+use Rattle.effect_check.specs.declared.act.ActKind.{ActKind}
+use Rattle.effect_check.specs.declared.act.ActKind.TheVariants.{Touch, Call, Make, Wait}
 use Rattle.effect_check.specs.Covered.{Does}
-use Rattle.refusal_causes.specs.inner.Keeping.{JoinsSurely, SpawnsAnew}
+use Rattle.refusal_causes.specs.Causes.{IsMadeAt}
+use Rattle.refusal_causes.specs.inner.Keeping.{IsDone, IsMaking, JoinsSurely, SpawnsAnew}
 use Rattle.refusal_causes.proofs.Covering.{in_range}
 
 among : (n : ℕ) → is_among n n ≡ true
@@ -59,3 +62,21 @@ pub spawns_anew : (task : Decl) (place : Place) (point future : ℕ) (spawned de
     → ¬ MayBeOut task.body point future → SpawnsAnew task place point (Make future spawned deterministic effects at task_place)
 spawns_anew task place point future true deterministic effects at task_place none = λ _. none
 spawns_anew task place point future false deterministic effects at task_place none = tt
+
+-- an act of the task that makes the future's task
+pub made_by : (p : Program) (task : Decl) (act : Act) (wanted : ℕ) → IsDone p task act → (place : Place) → IsMaking wanted place act.kind
+    → IsMadeAt p task wanted place
+made_by p task act wanted done place making = by_kind act.kind done making where
+  by_kind : (kind : ActKind) → Does p task act.point kind → IsMaking wanted place kind → IsMadeAt p task wanted place
+  by_kind (Touch effect at) does is = absurd is
+  by_kind (Call effects at) does is = absurd is
+  by_kind (Make future spawned deterministic effects future_place at) does is = record {
+    at = act.point;
+    spawned = spawned;
+    deterministic = deterministic;
+    effects = effects;
+    place = at;
+    makes = subst (λ (q : Place). Does p task act.point (Make wanted spawned deterministic effects q at)) is.1
+        (subst (λ (f : ℕ). Does p task act.point (Make f spawned deterministic effects future_place at)) is.0 does);
+  }
+  by_kind (Wait future join at) does is = absurd is

@@ -8,3 +8,7 @@ pub mod Complete
 pub mod Loops
 -- One token more that is tried.
 pub mod Following
+-- All failures: the map that they are in, why each one fails, and that nothing else does.
+pub mod Entries
+pub mod Listed
+pub mod Kept

@@ -1,5 +1,5 @@
 -- One element more of which something holds, and all of them.
-use Rattle.std.proofs.Common.{◌≡◌, ◌<◌, ◌≤◌, ℕ, ◌+◌, List, Option, None, length, get_or, take, subst}
+use Rattle.std.proofs.Common.{◌≡◌, ◌<◌, ◌≤◌, ℕ, ◌+◌, List, Option, None, length, get_or, take, sym, subst}
 use Rattle.std.specs.Prelude.{IfNone}
 use Rattle.std.specs.List.{All}
 use Rattle.std.proofs.lemmas.List.{take_all}
@@ -15,3 +15,7 @@ whole P xs i past all = subst (All P) (take_all i xs past) all
 -- what holds if nothing is found, where nothing is
 pub not_found : {X : Type 0} (P : Type 0) (found : Option X) → found ≡ None → IfNone found P → P
 not_found P found is h = subst (λ o. IfNone o P) is h
+
+-- what holds of all, at the one that comes now
+pub at_item : {X : Type 0} (P : X → Type 0) (xs : List X) (i : ℕ) (x : X) → i < length xs → x ≡ get_or xs i x → All P xs → P x
+at_item P xs i x below is all = subst P (sym is) (all i x below)

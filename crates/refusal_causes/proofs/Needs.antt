@@ -1,8 +1,10 @@
 -- What an act that is found at a place needs there, and why it lacks it.
-use Rattle.std.proofs.Common.{◌≡◌, ℕ, List, Option, None, Some, Result, Ok, Err, IsTrue, IfOk, IfSome, Contains, subst}
-use Rattle.std.specs.Prelude.{IfNone}
+use Rattle.std.proofs.Common.{◌≡◌, ℕ, true, List, Option, None, Some, Result, Ok, Err, IsTrue, IfOk, IfSome, Contains, refl, ap, ◌∙◌, subst}
+use Rattle.std.specs.Prelude.{IfNone, ◌==◌}
+use Rattle.std.proofs.lemmas.Bool.Decides.{Decides-eqb}
 use Rattle.twe_base.specs.declared.memory.Memory as out_of
 use Rattle.twe_base.specs.declared.place.Place.{Place}
+use Rattle.twe_base.proofs.Members.{both-true, true-both}
 use Rattle.effect_sets.specs.declared.effects.Effect.{Effect}
 use Rattle.twe_program.specs.declared.program.Decl.{Decl}
 use Rattle.twe_program.specs.Program.{Program}
@@ -13,7 +15,19 @@ use Rattle.refusal_causes.specs.declared.cause.RuleCause.{RuleCause}
 use Rattle.refusal_causes.specs.declared.cause.RuleCause.TheVariants.{Undeclared, Out, NotOut, OutAgain, OrderOpen, NotDeterministic}
 use Rattle.refusal_causes.specs.Barring.{IsLack}
 use Rattle.refusal_causes.specs.Causes.{IsCauseIn, NeedsAt}
-use Rattle.refusal_causes.specs.Seeking.{is_of_needs, needs_at, needs_of}
+use Rattle.refusal_causes.specs.Seeking.{is_at, is_of_needs, needs_at, needs_of}
+
+-- a place is where it is
+pub is_there : (place : Place) → is_at place place ≡ true
+is_there place =
+    true-both (place.line == place.line) (place.col == place.col) ((Decides-eqb place.line place.line).1 refl) ((Decides-eqb place.col place.col).1 refl)
+
+-- places that are the same
+pub same_place : (place other : Place) → is_at place other ≡ true → place ≡ other
+same_place place other same =
+    let both = both-true (place.line == other.line) (place.col == other.col) same in
+    ap (λ (n : ℕ). record { line = n; col = place.col }) ((Decides-eqb place.line other.line).0 both.0)
+    ∙ ap (λ (n : ℕ). record { line = other.line; col = n }) ((Decides-eqb place.col other.col).0 both.1)
 
 -- what is found is of a weaker kind, too
 pub found_weaker : {X : Type 0} (P Q : X → Type 0) → ((x : X) → P x → Q x) → (r : Result (Option X) out_of.Memory)

@@ -44,6 +44,12 @@ is_of_names (Text rule) = false
 is_of_names (Name rule) = true
 is_of_names (Effect rule) = false
 
+-- the rule is one on effects
+abbrev pub is_of_effects : RuleName → Bool
+is_of_effects (Text rule) = false
+is_of_effects (Name rule) = false
+is_of_effects (Effect rule) = true
+
 -- the need is the cause of the failure of a rule of names at the place
 abbrev pub IsNameCauseOf : Ast → RuleName → Place → NameNeed → Type 0
 IsNameCauseOf tree (Text rule) place cause = ⊥

@@ -8,7 +8,7 @@ ghost use Rattle.effect_sets.specs.Interference.{statically_interferes};
 ghost use Rattle.effect_check.specs.Acts.{acts_in_all};
 ghost use Rattle.effect_check.specs.Covered.{Does};
 ghost use Rattle.refusal_causes.specs.Barring.{IsPair, IsSpawnBar};
-ghost use Rattle.refusal_causes.specs.inner.Keeping.{AreFreeOf, BarsNone, IsFreeOf, IsNoBar};
+ghost use Rattle.refusal_causes.specs.inner.Keeping.{AreFreeOf, BarsNone, IsDone, IsFollowed, IsFreeOf, IsNoBar};
 
 use cover_flow::{Points, flow};
 use effect_check::{Act, ActKind};
@@ -108,12 +108,34 @@ fn bar_by_spawn(
     first_pair(alloc, needs, effects, future_place)
 }
 
-/// How this act of the task bars one of the needed effects at the point, if it is a spawn that does.
+/// Finds new facts of the body, if this is a spawn whose future these do not follow.
+fn follow_spawn(
+    alloc: Global,
+    body: &Body,
+    points: &mut Points,
+    kind: &ActKind,
+) -> Result<(), Memory>
+    requires { IsFlowOf points.now body.now }
+    ensures facts { OnOk result (IsFlowOf points.new body.now) }
+    ensures followed { OnOk result (IsFollowed points.new.first kind.now) }
+{
+    match kind {
+        ActKind::Make {
+            future,
+            spawned: true,
+            ..
+        } => follow(alloc, body, points, *future),
+        ActKind::Make { spawned: false, .. } => Ok(()),
+        ActKind::Touch { .. } | ActKind::Call { .. } | ActKind::Wait { .. } => Ok(()),
+    }
+}
+
+/// How this act of the task bars one of the needed effects at the point, if it is a spawn that does. Its future is followed.
 fn bar_by(
     alloc: Global,
     p: &Prog,
     task: &Decl,
-    points: &mut Points,
+    points: &Points,
     point: u32,
     needs: &[Effect],
     act: &Act,
@@ -122,7 +144,7 @@ fn bar_by(
     requires fits { DeclFits p.now task.now }
     requires here { point < task.now.body.points }
     requires done { Does p.now task.now act.now.point act.now.kind }
-    ensures facts { OnOk result (IsFlowOf points.new task.now.body) }
+    requires followed { IsFollowed points.now.first act.now.kind }
     ensures found { IfOk result (λ found. IfSome found (IsSpawnBar p.now task.now point needs.now)) }
     ensures none { IfOk result (λ found. IfNone found (BarsNone task.now point needs.now act.now.kind)) }
 {
@@ -134,24 +156,48 @@ fn bar_by(
             effects,
             future_place,
             ..
-        } => {
-            follow(alloc, &task.body, points, *future)?;
-            bar_by_spawn(
-                alloc,
-                &task.body,
-                points,
-                point,
-                needs,
-                *future,
-                effects,
-                *future_place,
-            )
-        }
+        } => bar_by_spawn(
+            alloc,
+            &task.body,
+            points,
+            point,
+            needs,
+            *future,
+            effects,
+            *future_place,
+        ),
         ActKind::Make { spawned: false, .. } => Ok(None),
         ActKind::Touch { .. } => Ok(None),
         ActKind::Call { .. } => Ok(None),
         ActKind::Wait { .. } => Ok(None),
     }
+}
+
+/// How one of these acts of the task bars one of the needed effects at the point, if one does. Their futures are followed.
+pub fn bar_in_group(
+    alloc: Global,
+    p: &Prog,
+    task: &Decl,
+    points: &Points,
+    point: u32,
+    needs: &[Effect],
+    makes: &[Act],
+) -> Result<Option<SpawnBar>, Memory>
+    requires facts { IsFlowOf points.now task.now.body }
+    requires fits { DeclFits p.now task.now }
+    requires here { point < task.now.body.points }
+    requires done { All (IsDone p.now task.now) makes.now }
+    requires followed { All (λ act. IsFollowed points.now.first act.kind) makes.now }
+    ensures found { IfOk result (λ found. IfSome found (IsSpawnBar p.now task.now point needs.now)) }
+    ensures none { IfOk result (λ found. IfNone found (All (IsNoBar task.now point needs.now) makes.now)) }
+{
+    for act in makes {
+        let found = bar_by(alloc, p, task, points, point, needs, act)?;
+        if let Some(bar) = found {
+            return Ok(Some(bar));
+        }
+    }
+    Ok(None)
 }
 
 /// How one of the task's acts bars one of the needed effects at the point, if one does. The facts of 128 futures are found
@@ -172,7 +218,8 @@ pub fn bar_among(
 {
     let mut points = flow(alloc, &task.body, 0)?;
     for act in acts {
-        let found = bar_by(alloc, p, task, &mut points, point, needs, act)?;
+        follow_spawn(alloc, &task.body, &mut points, &act.kind)?;
+        let found = bar_by(alloc, p, task, &points, point, needs, act)?;
         if let Some(bar) = found {
             return Ok(Some(bar));
         }

@@ -8,7 +8,7 @@ ghost use Rattle.effect_check.specs.Covered.{CoveredAt, Does};
 ghost use Rattle.refusal_causes.specs.Barring.{IsLack};
 ghost use Rattle.refusal_causes.specs.Causes.{IsCauseIn};
 ghost use Rattle.refusal_causes.specs.Seeking.{is_at, is_of_needs, needs_at, needs_of};
-ghost use Rattle.refusal_causes.specs.inner.Keeping.{IsCoveredThere, IsDeclared};
+ghost use Rattle.refusal_causes.specs.inner.Keeping.{IsDeclared, IsKept};
 
 use crate::barring::{SpawnBar, bar_among};
 use crate::cause::RuleCause;
@@ -41,7 +41,7 @@ fn needs_at(place: Place, kind: &ActKind) -> bool
 }
 
 /// The effects that this needs.
-fn needs_of(alloc: Global, kind: &ActKind) -> Result<Effects, Memory>
+pub fn needs_of(alloc: Global, kind: &ActKind) -> Result<Effects, Memory>
     ensures { IfOk result (λ effects. effects ≡ needs_of kind.now) }
 {
     match kind {
@@ -59,7 +59,7 @@ fn needs_of(alloc: Global, kind: &ActKind) -> Result<Effects, Memory>
 }
 
 /// The first of the needed effects that no declared one includes, if there is one.
-fn first_undeclared(
+pub fn first_undeclared(
     alloc: Global,
     summary: &Summary,
     needs: &[Effect],
@@ -134,7 +134,7 @@ pub fn cause_of_lack(
     requires fits { DeclFits p.now decl.now }
     requires all { acts.now ≡ acts_in_all p.now decl.now.body.block }
     ensures found { IfOk result (λ found. IfSome found (IsCauseIn p.now rule place decl.now)) }
-    ensures none { IfOk result (λ found. IfNone found (IsCoveredThere p.now decl.now place act.now)) }
+    ensures none { IfOk result (λ found. IfNone found (IsKept p.now rule place decl.now act.now)) }
 {
     let _ = rule;
     if !needs_at(place, &act.kind) {

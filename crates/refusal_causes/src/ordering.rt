@@ -1,11 +1,12 @@
 //! Joins and spawns of a task at a place, and what a deterministic task must not do: why the rules on these fail there.
 ghost use Rattle.std.specs.Prelude.{◌≡◌, IfNone, IfOk, IfSome};
+ghost use Rattle.std.specs.List.{All};
 ghost use Rattle.twe_program.specs.WellFormed.{DeclFits};
 ghost use Rattle.effect_check.specs.Acts.{acts_in_all};
 ghost use Rattle.effect_check.specs.Covered.{Does};
 ghost use Rattle.effect_check.specs.declared.rule.ERule.TheVariants.{E4, E5, E6, E7};
 ghost use Rattle.refusal_causes.specs.Causes.{IsCauseIn, IsMadeAt, has_open_order, spawns_other};
-ghost use Rattle.refusal_causes.specs.inner.Keeping.{IsMaking, JoinsSurely, KeepsOrder, SpawnsAlike, SpawnsAnew};
+ghost use Rattle.refusal_causes.specs.inner.Keeping.{IsDone, IsMaking, JoinsSurely, KeepsOrder, SpawnsAlike, SpawnsAnew};
 
 use crate::cause::RuleCause;
 use crate::needing::is_at;
@@ -37,9 +38,9 @@ fn place_if_making(kind: &ActKind, wanted: u32) -> Option<Place>
     }
 }
 
-/// The place of the future's name, where one of the acts makes its task.
-fn place_of_making(p: &Prog, task: &Decl, acts: &[Act], future: u32) -> Option<Place>
-    requires { acts.now ≡ acts_in_all p.now task.now.body.block }
+/// The place of the future's name, where one of these acts of the task makes the future's task.
+pub fn place_of_making(p: &Prog, task: &Decl, acts: &[Act], future: u32) -> Option<Place>
+    requires { All (IsDone p.now task.now) acts.now }
     ensures { IfSome result (IsMadeAt p.now task.now future) }
 {
     let _ = p;

@@ -4,3 +4,5 @@ pub mod Trying
 pub mod Finding
 -- A text that ends too early.
 pub mod Ending
+-- A rule of the text, of tokens or of names is none on effects.
+pub mod Classes

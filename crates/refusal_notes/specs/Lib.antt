@@ -8,3 +8,4 @@ pub mod Unclosed
 pub mod Mends
 pub mod Answers
 pub mod Meetings
+pub mod AllFailures

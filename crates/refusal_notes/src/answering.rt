@@ -32,7 +32,20 @@ pub fn explain_text(alloc: Global, wanted: &Wanted, text: &[u8]) -> Result<Answe
     ensures { IfOk result (ExplainDue wanted.now text.now) }
 {
     let explained = explain(alloc, text)?;
-    match &explained {
+    answer_explained(alloc, wanted, text, &explained)
+}
+
+/// The answer to a text of which this is known.
+pub(crate) fn answer_explained(
+    alloc: Global,
+    wanted: &Wanted,
+    text: &[u8],
+    explained: &Explained,
+) -> Result<Answer, Memory>
+    requires { IsExplained text.now explained.now }
+    ensures { IfOk result (ExplainDue wanted.now text.now) }
+{
+    match explained {
         Explained::Kept => answer_accepted(alloc, wanted, text),
         Explained::Early { refusal, cause } => {
             answer_refusal(alloc, wanted, text, *refusal, *cause)
@@ -153,7 +166,7 @@ fn answer_named(
 }
 
 /// The answer to a text that has this tree, means this program, and has this refusal with this cause.
-fn answer_caused(
+pub(crate) fn answer_caused(
     alloc: Global,
     wanted: &Wanted,
     text: &[u8],

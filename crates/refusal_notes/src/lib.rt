@@ -1,6 +1,7 @@
 //! What is said of a text: that it is accepted, or why it is refused, with edits that mend it.
 #![tactic(auto)]
 
+mod all_failures;
 mod answering;
 mod early;
 mod edits;
@@ -12,4 +13,5 @@ mod ruled;
 mod tokens;
 mod unclosed;
 
+pub use all_failures::explain_as;
 pub use answering::explain_text;

@@ -1,5 +1,5 @@
 -- The answer to a text that is run is due.
-use Rattle.std.proofs.Common.{◌≡◌, ℕ, List, Some, None, refl, subst}
+use Rattle.std.proofs.Common.{◌≡◌, ℕ, Bool, List, Some, None, refl, subst}
 use Rattle.seg_journal.specs.declared.journal.Entry.{Entry}
 use Rattle.twe_base.specs.Limits.{Bounds}
 use Rattle.twe_program.specs.Program.{Program}
@@ -32,13 +32,13 @@ book_of : Program → List Entry → Outcome → Book
 book_of p journal outcome = record { prog = Some p; journal = journal; outcome = Some outcome; refusal = None }
 
 -- what a run of an accepted program has, makes its answer due
-pub due_of_run : (wanted : Wanted) (text : List ℕ) (p : Program) (lim : Bounds) (journal : List Entry) (st : State) (answer : Answer)
+pub due_of_run : (all : Bool) (wanted : Wanted) (text : List ℕ) (p : Program) (lim : Bounds) (journal : List Entry) (st : State) (answer : Answer)
     → Accepted text p → IsRun p lim journal st → LowestFirst p lim journal → IsOver st → (IsOutcome st AllDone → EachOnce journal st)
     → EachAtMostOnce journal → AlwaysIsolated p lim journal → AlwaysCovered p lim journal
     → DeterministicTasksHaveResults p lim journal → MainHasItsResult p lim journal
-    → RunTold wanted text p lim journal st answer → RunDue wanted text lim answer
+    → RunTold wanted text p lim journal st answer → RunDue all wanted text lim answer
 unfolding book_of
-due_of_run wanted text p lim journal st answer accepted run lowest over once most isolated covered results of_main told =
+due_of_run all wanted text p lim journal st answer accepted run lowest over once most isolated covered results of_main told =
     let ended = outcome_of wanted text p lim journal st answer told in
     let book = book_of p journal ended.0 in
     RunDue.ran p ended.0 book accepted

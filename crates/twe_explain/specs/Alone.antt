@@ -4,10 +4,10 @@ use Rattle.std.specs.Prelude.{ℕ, List, [], ◌∷◌, ◌++◌, Option, None, 
 
 -- how the program is called, for a text or a journal, for a run, and for a text by itself
 abbrev pub call_of_text : List ℕ
-call_of_text = codes "usage: twe_explain [--name FILE] [--lines] < TEXT\n"
+call_of_text = codes "usage: twe_explain [--name FILE] [--lines] [--all] < TEXT\n"
 
 abbrev pub call_of_run : List ℕ
-call_of_run = codes "       twe_explain --run [--fuel N] [--tasks N] [--name FILE] [--lines] < TEXT\n"
+call_of_run = codes "       twe_explain --run [--fuel N] [--tasks N] [--name FILE] [--lines] [--all] < TEXT\n"
 
 abbrev pub call_alone : List ℕ
 call_alone = codes "       twe_explain --help | --version\n\n"
@@ -27,6 +27,9 @@ name_option = codes "  --name FILE  the name of the text; it is shown before pla
 
 abbrev pub lines_option : List ℕ
 lines_option = codes "  --lines      each note in one line, FILE:LINE:COLUMN: TEXT, for editors\n"
+
+abbrev pub all_option : List ℕ
+all_option = codes "  --all        each rule on effects that fails, at each place where it does\n"
 
 -- the words for a run
 abbrev pub run_options : List ℕ
@@ -54,7 +57,7 @@ replay_text = journal_status ++ run_status
 -- what the program does, and its words
 unfoldable pub help_text : List ℕ
 help_text =
-    call_text ++ (purpose_text ++ (name_option ++ (lines_option ++ (run_options ++ (alone_text ++ replay_text)))))
+    call_text ++ (purpose_text ++ (name_option ++ (lines_option ++ (all_option ++ (run_options ++ (alone_text ++ replay_text))))))
 
 -- the version of the program
 abbrev pub version_text : List ℕ
@@ -75,4 +78,5 @@ text_alone (word ∷ next ∷ others) = None
 
 -- the usage line
 abbrev pub explain_usage_text : List ℕ
-explain_usage_text = line (codes "usage: twe_explain [--name FILE] [--lines] [--run [--fuel N] [--tasks N]] | --help | --version")
+explain_usage_text =
+    line (codes "usage: twe_explain [--name FILE] [--lines] [--all] [--run [--fuel N] [--tasks N]] | --help | --version")

@@ -1,5 +1,5 @@
 -- What the program answers to an input, and why.
-use Rattle.std.specs.Prelude.{◌≡◌, ℕ, List, None, Some, false, true}
+use Rattle.std.specs.Prelude.{◌≡◌, ℕ, Bool, List, None, Some, false, true}
 use Rattle.text_answers.specs.Input.{has_mark, journal_part, program_part}
 use Rattle.text_programs.specs.Causes.{TextCause}
 use Rattle.twe_io.specs.declared.answer.Answer.{Answer}
@@ -7,7 +7,7 @@ use Rattle.twe_io.specs.declared.status.Status.{Status}
 use Rattle.twe_io.specs.declared.status.Status.TheVariants.{Done}
 use Rattle.twe_io.specs.Ends.{Ends, EndsTell, SourceTells}
 use Rattle.twe_io.specs.Answers.{IsAnswered, on_out}
-use Rattle.refusal_notes.specs.Answers.{ExplainDue}
+use Rattle.refusal_notes.specs.AllFailures.{AskedDue}
 use Rattle.twe_frontend.specs.Accepted.{Accepted, IsRefusal}
 use Rattle.twe_frontend.specs.declared.refusal.Refusal.{Refusal}
 use Rattle.twe_program.specs.Program.{Program}
@@ -20,24 +20,24 @@ use Rattle.twe_explain.specs.declared.words.Wish.{Wish}
 use Rattle.explain_pages.specs.declared.wanted.Wanted.{Wanted}
 
 -- the answer to a text and a journal: if the text is refused, as without a journal
-pub data PartsDue (wanted : Wanted) (text journal : List ℕ) : Answer → Type 0 where
-  refused : {answer : Answer} (r : Refusal) → IsRefusal text r → ExplainDue wanted text answer
-      → PartsDue wanted text journal answer
+pub data PartsDue (all : Bool) (wanted : Wanted) (text journal : List ℕ) : Answer → Type 0 where
+  refused : {answer : Answer} (r : Refusal) → IsRefusal text r → AskedDue all wanted text answer
+      → PartsDue all wanted text journal answer
   accepted : {answer : Answer} (p : Program) → Accepted text p → JournalTold wanted text p journal answer
-      → PartsDue wanted text journal answer
+      → PartsDue all wanted text journal answer
 
--- The answer to an input that was read. All of it is on out.
-pub data InputDue (wanted : Wanted) (input : List ℕ) : Answer → Type 0 where
+-- The answer to an input that was read, if all failures are wanted or the first one. All of it is on out.
+pub data InputDue (all : Bool) (wanted : Wanted) (input : List ℕ) : Answer → Type 0 where
   -- no line is exactly `%%`, and the input is a text; the status is that of `twe check`
-  whole : {answer : Answer} → has_mark input ≡ false → ExplainDue wanted input answer → InputDue wanted input answer
+  whole : {answer : Answer} → has_mark input ≡ false → AskedDue all wanted input answer → InputDue all wanted input answer
   -- after the first line that is exactly `%%` comes a journal; the status is that of `twe replay`
-  parts : {answer : Answer} → has_mark input ≡ true → PartsDue wanted (program_part input) (journal_part input) answer
-      → InputDue wanted input answer
+  parts : {answer : Answer} → has_mark input ≡ true → PartsDue all wanted (program_part input) (journal_part input) answer
+      → InputDue all wanted input answer
 
 -- The answer to an input, if this is asked for: a run of the text that it is, or what `InputDue` says.
 pub data WishDue (wish : Wish) (input : List ℕ) : Answer → Type 0 where
-  unrun : {answer : Answer} → wish.run ≡ None → InputDue wish.wanted input answer → WishDue wish input answer
-  run : {answer : Answer} (lim : Bounds) → wish.run ≡ Some lim → RunDue wish.wanted input lim answer
+  unrun : {answer : Answer} → wish.run ≡ None → InputDue wish.all wish.wanted input answer → WishDue wish input answer
+  run : {answer : Answer} (lim : Bounds) → wish.run ≡ Some lim → RunDue wish.all wish.wanted input lim answer
       → WishDue wish input answer
 
 -- Why the program gives an answer, before it writes anything.

@@ -1,5 +1,5 @@
 -- The answer to a text that is to be run.
-use Rattle.std.specs.Prelude.{ℕ, List}
+use Rattle.std.specs.Prelude.{ℕ, Bool, List}
 use Rattle.twe_base.specs.Limits.{Bounds}
 use Rattle.twe_program.specs.Program.{Program}
 use Rattle.twe_frontend.specs.Accepted.{Accepted, IsRefusal}
@@ -10,16 +10,16 @@ use Rattle.text_answers.specs.Theorem.{HasRun}
 use Rattle.text_answers.specs.declared.book.Book.{Book}
 use Rattle.twe_io.specs.declared.answer.Answer.{Answer}
 use Rattle.explain_pages.specs.declared.wanted.Wanted.{Wanted}
-use Rattle.refusal_notes.specs.Answers.{ExplainDue}
+use Rattle.refusal_notes.specs.AllFailures.{AskedDue}
 use Rattle.run_notes.specs.Journals.{RunTold}
 
 -- The answer to a text that is to be run under these limits. Its status is that of `twe run` without workers.
-pub data RunDue (wanted : Wanted) (text : List ℕ) (lim : Bounds) : Answer → Type 0 where
+pub data RunDue (all : Bool) (wanted : Wanted) (text : List ℕ) (lim : Bounds) : Answer → Type 0 where
   -- the text is refused, as `twe run` says, and the answer is that to the text alone
-  refused : {answer : Answer} (r : Refusal) → IsRefusal text r → ExplainDue wanted text answer
-      → RunDue wanted text lim answer
-  -- the run theorem: the text is accepted, the book has the run of its program that `twe run` without workers makes, and the state
-  -- that this run leads to is explained
+  refused : {answer : Answer} (r : Refusal) → IsRefusal text r → AskedDue all wanted text answer
+      → RunDue all wanted text lim answer
+  -- the run theorem: the text is accepted, the book has the run of its program that `twe run` without workers makes, and the
+  -- state that this run leads to is explained
   ran : {answer : Answer} (p : Program) (outcome : Outcome) (book : Book) → Accepted text p → HasRun p lim 0 outcome book
       → RunTold wanted text p lim book.journal (state_after p lim book.journal) answer
-      → RunDue wanted text lim answer
+      → RunDue all wanted text lim answer

@@ -1,5 +1,5 @@
--- What the words after the program's name ask for: `--name FILE`, `--lines`, and `--run`, beside which `--fuel N` and `--tasks N`
--- may stand. Each stands at most once, and they may stand in any order. Other words ask for nothing.
+-- What the words after the program's name ask for: `--name FILE`, `--lines`, `--all`, and `--run`, beside which `--fuel N` and
+-- `--tasks N` may stand. Each stands at most once, and they may stand in any order. Other words ask for nothing.
 use Rattle.std.specs.Prelude.{ℕ, Bool, true, false, ◌&&◌, ◌||◌, not, List, [], Option, None, Some, unwrap_or, is_some, codes, bytes_eq, fold, if◌then◌else◌}
 use Rattle.twe_base.specs.Language.{default_fuel, default_tasks, max_fuel, max_tasks}
 use Rattle.twe_base.specs.Limits.{Bounds}
@@ -14,6 +14,7 @@ abbrev pub asked_first : Asked
 asked_first = record {
   name = None;
   lines = false;
+  all = false;
   run = false;
   fuel = false;
   tasks = false;
@@ -26,6 +27,7 @@ abbrev pub option_taken : Asked → List ℕ → Asked
 option_taken asked word =
     if bytes_eq word (codes "--name") && not (is_some asked.name) then record asked { next = Name }
     else if bytes_eq word (codes "--lines") && not asked.lines then record asked { lines = true }
+    else if bytes_eq word (codes "--all") && not asked.all then record asked { all = true }
     else if bytes_eq word (codes "--run") && not asked.run then record asked { run = true }
     else if bytes_eq word (codes "--fuel") && not asked.fuel then record asked { next = Fuel }
     else if bytes_eq word (codes "--tasks") && not asked.tasks then record asked { next = Tasks }
@@ -75,6 +77,7 @@ run_of asked = if asked.run then Some asked.lim else None
 abbrev pub wish_made : Asked → Wish
 wish_made asked = record {
   wanted = record { name = unwrap_or asked.name []; lines = asked.lines };
+  all = asked.all;
   run = run_of asked;
 }
 

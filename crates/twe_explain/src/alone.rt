@@ -1,6 +1,6 @@
 //! The texts that are asked for by one word, and for which nothing is read.
 ghost use Rattle.std.specs.Prelude.{◌≡◌, ◌++◌, IfOk, OnOk};
-ghost use Rattle.twe_explain.specs.Alone.{alone_text, call_text, explain_usage_text, help_text, lines_option, name_option, purpose_text, replay_text, run_options, text_alone, text_of_word, version_text};
+ghost use Rattle.twe_explain.specs.Alone.{all_option, alone_text, call_text, explain_usage_text, help_text, lines_option, name_option, purpose_text, replay_text, run_options, text_alone, text_of_word, version_text};
 
 use std::alloc::Global;
 use twe_base::{Bytes, Memory, Word};
@@ -9,9 +9,9 @@ use twe_base::{Bytes, Memory, Word};
 fn push_call(text: &mut Bytes) -> Result<(), Memory>
     ensures { OnOk result (text.new ≡ text.old ++ call_text) }
 {
-    text.push_all(b"usage: twe_explain [--name FILE] [--lines] < TEXT\n")?;
+    text.push_all(b"usage: twe_explain [--name FILE] [--lines] [--all] < TEXT\n")?;
     text.push_all(
-        b"       twe_explain --run [--fuel N] [--tasks N] [--name FILE] [--lines] < TEXT\n",
+        b"       twe_explain --run [--fuel N] [--tasks N] [--name FILE] [--lines] [--all] < TEXT\n",
     )?;
     text.push_all(b"       twe_explain --help | --version\n\n")
 }
@@ -38,6 +38,13 @@ fn push_lines_option(text: &mut Bytes) -> Result<(), Memory>
     ensures { OnOk result (text.new ≡ text.old ++ lines_option) }
 {
     text.push_all(b"  --lines      each note in one line, FILE:LINE:COLUMN: TEXT, for editors\n")
+}
+
+/// Appends what `--all` asks for.
+fn push_all_option(text: &mut Bytes) -> Result<(), Memory>
+    ensures { OnOk result (text.new ≡ text.old ++ all_option) }
+{
+    text.push_all(b"  --all        each rule on effects that fails, at each place where it does\n")
 }
 
 /// Appends what the words for a run ask for.
@@ -79,6 +86,7 @@ fn help_text(alloc: Global) -> Result<Bytes, Memory>
     push_purpose(&mut text)?;
     push_name_option(&mut text)?;
     push_lines_option(&mut text)?;
+    push_all_option(&mut text)?;
     push_run_options(&mut text)?;
     push_alone(&mut text)?;
     push_replay(&mut text)?;
@@ -122,6 +130,6 @@ pub(crate) fn usage_text(alloc: Global) -> Result<Bytes, Memory>
 {
     Bytes::from_slice(
         alloc,
-        b"usage: twe_explain [--name FILE] [--lines] [--run [--fuel N] [--tasks N]] | --help | --version\n",
+        b"usage: twe_explain [--name FILE] [--lines] [--all] [--run [--fuel N] [--tasks N]] | --help | --version\n",
     )
 }

@@ -7,7 +7,7 @@ ghost use Rattle.twe_explain.specs.Inputs.{InputDue, PartsDue, WishDue};
 use crate::running::explain_run;
 use crate::words::Wish;
 use explain_pages::Wanted;
-use refusal_notes::explain_text;
+use refusal_notes::explain_as;
 use run_notes::answer_journal;
 use std::alloc::Global;
 use text_answers::cut_at_mark;
@@ -22,27 +22,27 @@ pub(crate) fn answer_wish(alloc: Global, wish: &Wish, input: &[u8]) -> Result<An
 {
     match wish.run {
         None => {
-            let answer = answer_input(alloc, &wish.wanted, input)?;
+            let answer = answer_input(alloc, &wish.wanted, wish.all, input)?;
             Ok(answer)
         }
         Some(lim) => {
-            let answer = explain_run(alloc, &wish.wanted, lim, input)?;
+            let answer = explain_run(alloc, &wish.wanted, wish.all, lim, input)?;
             Ok(answer)
         }
     }
 }
 
 /// The answer to an input: to the text of a program, and if it has a line that is exactly `%%`, to the journal after it.
-fn answer_input(alloc: Global, wanted: &Wanted, input: &[u8]) -> Result<Answer, Memory>
+fn answer_input(alloc: Global, wanted: &Wanted, all: bool, input: &[u8]) -> Result<Answer, Memory>
     requires { length input.now ≤ max_text_bytes }
-    ensures { IfOk result (InputDue wanted.now input.now) }
+    ensures { IfOk result (InputDue all wanted.now input.now) }
 {
     match cut_at_mark(input) {
         None => {
-            let answer = explain_text(alloc, wanted, input)?;
+            let answer = explain_as(alloc, wanted, all, input)?;
             Ok(answer)
         }
-        Some(parts) => answer_cut(alloc, wanted, input, parts),
+        Some(parts) => answer_cut(alloc, wanted, all, input, parts),
     }
 }
 
@@ -50,16 +50,17 @@ fn answer_input(alloc: Global, wanted: &Wanted, input: &[u8]) -> Result<Answer, 
 fn answer_cut(
     alloc: Global,
     wanted: &Wanted,
+    all: bool,
     input: &[u8],
     parts: (&[u8], &[u8]),
 ) -> Result<Answer, Memory>
     requires mark { has_mark input.now ≡ true }
     requires text { parts.0.now ≡ program_part input.now }
     requires journal { parts.1.now ≡ journal_part input.now }
-    ensures { IfOk result (InputDue wanted.now input.now) }
+    ensures { IfOk result (InputDue all wanted.now input.now) }
 {
     let _ = input;
-    let answer = answer_parts(alloc, wanted, parts.0, parts.1)?;
+    let answer = answer_parts(alloc, wanted, all, parts.0, parts.1)?;
     Ok(answer)
 }
 
@@ -67,10 +68,11 @@ fn answer_cut(
 fn answer_parts(
     alloc: Global,
     wanted: &Wanted,
+    all: bool,
     text: &[u8],
     journal: &[u8],
 ) -> Result<Answer, Memory>
-    ensures { IfOk result (PartsDue wanted.now text.now journal.now) }
+    ensures { IfOk result (PartsDue all wanted.now text.now journal.now) }
 {
     match read_program(alloc, text) {
         Ok(p) => {
@@ -79,7 +81,7 @@ fn answer_parts(
         }
         Err(FrontFail::Refused(refusal)) => {
             let _ = refusal;
-            let answer = explain_text(alloc, wanted, text)?;
+            let answer = explain_as(alloc, wanted, all, text)?;
             Ok(answer)
         }
         Err(FrontFail::OutOfMemory(memory)) => Err(memory),

@@ -1,6 +1,6 @@
 //! `twe_explain`: why a TWEJava program is refused, or why its run goes no further, for people. It reads the text of a program
-//! from standard input, and the text of a journal after it if there is one, or runs it. It writes the answer of `twe check`, or of
-//! `twe replay` or `twe run`, with the places, the lines of the text, and what it comes from.
+//! from standard input, and the text of a journal after it if there is one, or runs it. It writes the answer of `twe check`, or
+//! of `twe replay` or `twe run`, with the places, the lines of the text, and what it comes from.
 #![tactic(auto)]
 
 mod alone;

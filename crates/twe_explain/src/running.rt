@@ -9,7 +9,7 @@ use determinism_laws::results::{
 use explain_pages::Wanted;
 use flat_sched::run_lowest;
 use isolation_laws::accepted_runs_are_isolated;
-use refusal_notes::explain_text;
+use refusal_notes::explain_as;
 use run_notes::tell_run;
 use std::alloc::Global;
 use twe_base::{Limits, Memory};
@@ -21,16 +21,17 @@ use twe_program::Prog;
 pub(crate) fn explain_run(
     alloc: Global,
     wanted: &Wanted,
+    all: bool,
     lim: Limits,
     text: &[u8],
 ) -> Result<Answer, Memory>
-    ensures { IfOk result (RunDue wanted.now text.now lim) }
+    ensures { IfOk result (RunDue all wanted.now text.now lim) }
 {
     match read_program(alloc, text) {
-        Ok(p) => explain_accepted(alloc, wanted, text, lim, &p),
+        Ok(p) => explain_accepted(alloc, wanted, all, text, lim, &p),
         Err(FrontFail::Refused(refusal)) => {
             let _ = refusal;
-            let answer = explain_text(alloc, wanted, text)?;
+            let answer = explain_as(alloc, wanted, all, text)?;
             Ok(answer)
         }
         Err(FrontFail::OutOfMemory(memory)) => Err(memory),
@@ -41,13 +42,15 @@ pub(crate) fn explain_run(
 fn explain_accepted(
     alloc: Global,
     wanted: &Wanted,
+    all: bool,
     text: &[u8],
     lim: Limits,
     p: &Prog,
 ) -> Result<Answer, Memory>
     requires { Accepted text.now p.now }
-    ensures { IfOk result (RunDue wanted.now text.now lim) }
+    ensures { IfOk result (RunDue all wanted.now text.now lim) }
 {
+    let _ = all;
     accepted_runs_are_isolated();
     deterministic_tasks_have_results();
     deterministic_mains_have_their_results();

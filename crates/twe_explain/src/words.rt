@@ -15,6 +15,8 @@ use twe_base::{Bytes, Limits, Memory, Word};
 pub struct Wish {
     /// How it is to be written.
     pub wanted: Wanted,
+    /// Whether all failures of the rules on effects are wanted, and not the first one.
+    pub all: bool,
     /// The limits of the run, if the text is to be run.
     pub run: Option<Limits>,
 }
@@ -41,6 +43,8 @@ pub struct Asked {
     pub name: Option<Bytes>,
     /// Whether each note is to be one line.
     pub lines: bool,
+    /// Whether all failures of the rules on effects are wanted.
+    pub all: bool,
     /// Whether the text is to be run.
     pub run: bool,
     /// Whether it is given how much fuel each task has.
@@ -60,6 +64,7 @@ fn asked_first() -> Asked
     Asked {
         name: None,
         lines: false,
+        all: false,
         run: false,
         fuel: false,
         tasks: false,
@@ -77,6 +82,8 @@ fn take_option(asked: &mut Asked, word: &Word)
         asked.next = NextWord::Name;
     } else if word == b"--lines".as_slice() && !asked.lines {
         asked.lines = true;
+    } else if word == b"--all".as_slice() && !asked.all {
+        asked.all = true;
     } else if word == b"--run".as_slice() && !asked.run {
         asked.run = true;
     } else if word == b"--fuel".as_slice() && !asked.fuel {
@@ -176,13 +183,14 @@ fn wish_made(alloc: Global, asked: Asked) -> Wish
     ensures { result ≡ wish_made asked }
 {
     let run = run_of(&asked);
-    let lines = asked.lines;
+    let (lines, all) = (asked.lines, asked.all);
     let name = match asked.name {
         None => Bytes::new(alloc),
         Some(name) => name,
     };
     Wish {
         wanted: Wanted { name, lines },
+        all,
         run,
     }
 }

@@ -63,6 +63,6 @@ pub fn a_node_has_what_its_worker_has_placed()
 /// A worker that knows of a chain of waits, and finds that its last task waits for another, knows that chain too.
 pub fn following_a_wait_keeps_the_rule()
     ensures { (nodes : List (List Elem)) (p : Program) (lim : Bounds) (log : List NumberedEntry) (f : Floor) (tree : Tree)
-        (core : State) (i s u v : ℕ) → KeepsBoth nodes p lim log f tree core → IsKnownToWait (tree.waits i) s u → f.phases u ≡ Waits v
-        → KeepsNodes nodes p lim log f (after_following tree i s v) core }
+        (core : State) (i s u v : ℕ) → KeepsBoth nodes p lim log f tree core → IsKnownToWait (tree.waits i) s u
+        → f.phases u ≡ Waits v → KeepsNodes nodes p lim log f (after_following tree i s v) core }
 {}

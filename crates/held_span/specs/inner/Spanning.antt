@@ -90,15 +90,15 @@ pub record ShowsStage (tree : List (List Part)) (marks : EffectMarks) (node : No
   pub gives : (key : Key) → Contains node.gives key ↔ (Contains base.gives key ⊎ GivesMark marks stage key)
 
 -- Nodes that share a key stand for entries of which the second follows the first, and the others that do are covered by paths.
-pub record AreSpanned (rows : List TaskRow) (tree : List (List Part)) (marks : EffectMarks) (nodes : List Node) (stages : List RunEntry)
-    : Type 0 where
+pub record AreSpanned (rows : List TaskRow) (tree : List (List Part)) (marks : EffectMarks) (nodes : List Node)
+    (stages : List RunEntry) : Type 0 where
   pub shows : AllZip (ShowsStage tree marks) nodes stages
   pub sound : (i j : ℕ) → Leads SharesKey nodes i j → Leads (FollowsFreed rows) stages i j
   pub covers : (i j : ℕ) → Leads (FollowsFreed rows) stages i j → (between : List ℕ) × IsPath (Leads SharesKey nodes) i between j
 
 -- Of the journal these entries were taken, and those are the rest.
-pub record IsSpanning (p : Program) (lim : Bounds) (marks : EffectMarks) (rows : List TaskRow) (before rest : List Entry) (run : Spanning)
-    : Type 0 where
+pub record IsSpanning (p : Program) (lim : Bounds) (marks : EffectMarks) (rows : List TaskRow)
+    (before rest : List Entry) (run : Spanning) : Type 0 where
   pub plan : IsPlan p lim marks rows (before ++ rest)
   pub same : run.st ≡ state_after p lim before
   pub tree : List (List Part)

@@ -26,7 +26,8 @@ pub(crate) fn serve<C: Cells>(
 ) -> Result<Onward, Memory>
     requires { MayRequest (ways_of C.known C.may_read C.may_write C.rule) cells.old request }
     ensures { IfOk result (λ onward. Serves (ways_of C.known C.may_read C.may_write C.rule)
-        request (standing machine.old cells.old prints.old) (course onward machine.new) (standing machine.new cells.new prints.new)) }
+        request (standing machine.old cells.old prints.old) (course onward machine.new)
+        (standing machine.new cells.new prints.new)) }
 {
     match request {
         Request::Nothing => {}
@@ -44,7 +45,8 @@ pub(crate) fn serve<C: Cells>(
     Ok(Onward::Below)
 }
 
-/// Makes the one step that a continuation frame is for. The step comes to the end of the run, or the continuation frame on top comes next.
+/// Makes the one step that a continuation frame is for. The step comes to the end of the run, or the continuation frame on top
+/// comes next.
 pub(crate) fn step<'a, C: Cells>(
     alloc: Global,
     p: &'a Prog,

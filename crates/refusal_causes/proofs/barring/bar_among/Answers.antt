@@ -7,7 +7,7 @@ pub loop-act-preserved : goal.loop-act-preserved
 loop-act-preserved c =
     let P = IsNoBar c.args.task.now c.args.point c.args.needs.now in
     record {
-      facts = c.in_ok-found.ensures.facts;
+      facts = c.in_ok-follow_spawn.ensures.facts;
       none = one_more P c.args.acts.now c.loop-act.act-index c.act-item.result c.loop-act-test.true c.act-item.is c.loop-act.invariant.none
           (not_found (P c.act-item.result) c.in_ok-found.found c.in_default.is c.in_ok-found.ensures.none);
     }

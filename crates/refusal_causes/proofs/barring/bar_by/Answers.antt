@@ -18,9 +18,9 @@ bar_by_spawn-requires-clause-there c =
     (in_range p task c.requires.fits at kind (subst (λ (k : ActKind). Does p task at k) arm.is c.requires.done)).1
 
 -- a spawn that does not bar
-pub returns-in_ok-follow-in-Make-default-true-default-default-default-default-clause-none :
-    goal.returns-in_ok-follow-in-Make-default-true-default-default-default-default-clause-none
-returns-in_ok-follow-in-Make-default-true-default-default-default-default-clause-none c =
+pub returns-in-Make-default-true-default-default-default-default-clause-none :
+    goal.returns-in-Make-default-true-default-default-default-default-clause-none
+returns-in-Make-default-true-default-default-default-default-clause-none c =
     let task = c.args.task.now in
     let needs = c.args.needs.now in
     let arm = c.in-Make-default-true-default-default-default-default in

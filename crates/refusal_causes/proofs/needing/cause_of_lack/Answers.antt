@@ -5,8 +5,9 @@ use Rattle.effect_check.specs.Covered.{CoveredAt}
 use Rattle.refusal_causes.specs.Barring.{IsLack}
 use Rattle.refusal_causes.specs.Causes.{IsCauseIn}
 use Rattle.refusal_causes.specs.Seeking.{needs_of}
-use Rattle.refusal_causes.specs.inner.Keeping.{IsCoveredThere}
+use Rattle.refusal_causes.specs.inner.Keeping.{IsKept}
 use Rattle.refusal_causes.proofs.Covering.{in_range}
+use Rattle.refusal_causes.proofs.Kept.{kept_if}
 use Rattle.refusal_causes.proofs.Needs.{found_weaker, lack_causes, none_weaker}
 use Rattle.refusal_causes.proofs.needing.cause_of_lack.Goals as goal
 
@@ -34,5 +35,7 @@ returns-clause-none c =
     let decl = c.args.decl.now in
     let act = c.args.act.now in
     let needs : c.as_slice.result.now ≡ needs_of act.kind = c.as_slice.ensures ∙ c.in_ok-needs.ensures in
-    none_weaker (All (CoveredAt p decl act.point) c.as_slice.result.now) (IsCoveredThere p decl c.args.place act)
-    (λ all. λ _. subst (λ (xs : List Effect). All (CoveredAt p decl act.point) xs) needs all) c.cause_of_needs.result c.cause_of_needs.ensures.none
+    none_weaker (All (CoveredAt p decl act.point) c.as_slice.result.now) (IsKept p c.args.rule c.args.place decl act)
+    (λ all. kept_if p c.args.rule c.args.place decl act c.requires.of_needs
+    (λ _. subst (λ (xs : List Effect). All (CoveredAt p decl act.point) xs) needs all))
+    c.cause_of_needs.result c.cause_of_needs.ensures.none

@@ -1,5 +1,4 @@
-use Rattle.std.proofs.Common.{[], List, sym, subst, take}
-use Rattle.refusal_causes.specs.declared.next_tokens.NextToken.{NextToken}
+use Rattle.std.proofs.Common.{sym, subst}
 use Rattle.refusal_causes.specs.NextTokens.{AreNextAt}
 use Rattle.refusal_causes.proofs.next_tokens.next_tokens.Goals as goal
 

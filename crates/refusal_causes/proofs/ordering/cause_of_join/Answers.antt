@@ -1,8 +1,12 @@
-use Rattle.std.proofs.Common.{◌≡◌, ◌∙◌, true, Bool, refl, sym, subst, arith}
+use Rattle.std.proofs.Common.{◌≡◌, ◌∙◌, true, Bool, List, refl, sym, subst, arith}
+use Rattle.std.specs.List.{All}
+use Rattle.std.proofs.lemmas.List.Elements.{All-contains_itself}
+use Rattle.effect_check.specs.declared.act.Act.{Act}
 use Rattle.effect_check.specs.declared.act.ActKind.{ActKind}
 use Rattle.effect_check.specs.declared.act.ActKind.TheVariants.{Wait}
+use Rattle.effect_check.specs.Acts.{acts_in_all}
 use Rattle.effect_check.specs.Covered.{Does}
-use Rattle.refusal_causes.specs.inner.Keeping.{JoinsSurely}
+use Rattle.refusal_causes.specs.inner.Keeping.{IsDone, JoinsSurely}
 use Rattle.refusal_causes.proofs.Joins.{joins_surely, not_surely_out, surely_out}
 use Rattle.refusal_causes.proofs.ordering.cause_of_join.Goals as goal
 
@@ -42,3 +46,9 @@ returns-else-surely-clause-found c =
         made = c.place_of_making-future_place.ensures;
       },
     )
+
+-- all acts are the task's
+pub place_of_making-future_place-requires : goal.place_of_making-future_place-requires
+place_of_making-future_place-requires c =
+    subst (λ (xs : List Act). All (IsDone c.args.p.now c.args.task.now) xs) (sym c.requires.all)
+    (All-contains_itself (acts_in_all c.args.p.now c.args.task.now.body.block))

@@ -11,5 +11,5 @@ returns c =
     let input = c.args.input.now in
     let answer = c.in_ok-answer.answer in
     InputDue.parts c.requires.mark
-    (subst (λ (journal : List ℕ). PartsDue wanted (program_part input) journal answer) c.requires.journal
-    (subst (λ (text : List ℕ). PartsDue wanted text c.args.parts.1.now answer) c.requires.text c.in_ok-answer.ensures))
+    (subst (λ (journal : List ℕ). PartsDue c.args.all wanted (program_part input) journal answer) c.requires.journal
+    (subst (λ (text : List ℕ). PartsDue c.args.all wanted text c.args.parts.1.now answer) c.requires.text c.in_ok-answer.ensures))

@@ -24,7 +24,7 @@ returns c =
     let well : IsWellFormed p = subst (λ (q : Program). IsWellFormed q) c.p.view_is c.p.invariant in
     let within : IsWithin lim.fuel lim.tasks = subst (λ (b : Bounds). IsWithin b.fuel b.tasks) c.lim.view_is c.lim.invariant in
     let accepted : IsAcceptedRun p lim journal = record { well_formed = well; keeps = keeps; legal = ran.legal } in
-    due_of_run c.args.wanted.now c.args.text.now p lim journal c.in_ok-journal.st c.in_ok-answer.answer c.requires
+    due_of_run c.args.all c.args.wanted.now c.args.text.now p lim journal c.in_ok-journal.st c.in_ok-answer.answer c.requires
     (record { legal = ran.legal; same = ran.state }) ran.lowest ran.ended ran.once ran.at_most_once
     (isolation.isolated p well keeps lim journal ran.legal) (isolation.covered p well keeps lim journal ran.legal)
     (c.deterministic_tasks_have_results.ensures p lim journal accepted within.tasks_least)
