@@ -14,6 +14,7 @@ use Rattle.refusal_notes.specs.declared.mends.Mend.{Mend}
 use Rattle.place_notes.specs.WordAt.{word_at}
 use Rattle.text_causes.specs.Behind.{from_place}
 use Rattle.refusal_notes.specs.Edits.{from_first, from_statement, with_end, without_first}
+use Rattle.refusal_notes.specs.LaterMends.{later_mend, later_mends}
 
 -- an edit, with what is said of it and the text after it
 abbrev pub mend_by : List ℕ → List ℕ → Mend
@@ -81,11 +82,12 @@ declared_mend (first ∷ others) text effect name place = effect_mend text effec
 -- the edits that may mend a failure with this cause, in the order in which they are tried
 abbrev pub mends_for : List ℕ → Place → RuleCause → List (List ℕ) → List written.Name → List Mend
 mends_for text place (Undeclared need declared decl_place) regions variables =
-    declared_mend declared.effects text (effect_text regions variables need) (word_at text decl_place) decl_place ∷ []
+    declared_mend declared.effects text (effect_text regions variables need) (word_at text decl_place) decl_place
+    ∷ later_mends text place
 mends_for text place (Out need other future_place decl_place) regions variables =
-    out_mends text (word_at text future_place) place
+    out_mends text (word_at text future_place) place ++ later_mends text place
 mends_for text place (NotOut future_place) regions variables = []
-mends_for text place OutAgain regions variables = []
+mends_for text place OutAgain regions variables = later_mend text place ∷ []
 mends_for text place (OrderOpen makes decl_place) regions variables = []
 mends_for text place (NotDeterministic decl_place) regions variables = []
 

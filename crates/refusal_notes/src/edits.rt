@@ -37,7 +37,7 @@ pub(crate) fn from_statement(text: &[u8], number: u32) -> &[u8]
 }
 
 /// Whether the bytes begin with these words.
-fn begins_with(words: &[u8], bytes: &[u8]) -> bool
+pub(crate) fn begins_with(words: &[u8], bytes: &[u8]) -> bool
     ensures { result ≡ begins_with words.now bytes.now }
 {
     words == first_bytes(bytes, words.len())

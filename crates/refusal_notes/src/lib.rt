@@ -7,6 +7,7 @@ mod early;
 mod edits;
 mod effects;
 mod explanation;
+mod later_mends;
 mod meetings;
 mod mends;
 mod ruled;

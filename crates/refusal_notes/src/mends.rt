@@ -8,6 +8,7 @@ ghost use Rattle.refusal_notes.specs.Edits.{from_first, from_statement, without_
 ghost use Rattle.refusal_notes.specs.Mends.{AreTried, IsTried, TellsAcceptance, declared_mend, effect_mend, effect_said, has_join, is_left, join_mend, join_said, join_text, mend_remark, mends_for, moved_join_mend, out_mends, pure_mend};
 
 use crate::edits::{from_first, from_statement, with_end, without_first};
+use crate::later_mends::{push_later, push_later_if};
 use effect_sets::Effect;
 use itoa::Buffer;
 use place_notes::{after_bytes, word_at};
@@ -272,19 +273,27 @@ pub(crate) fn mends_for(
             decl_place,
         } => {
             let effect = effect_text(alloc, regions, variables, need)?;
-            undeclared_mends(
+            let mut mends = undeclared_mends(
                 alloc,
                 text,
                 declared.effects.as_slice(),
                 effect.as_slice(),
                 *decl_place,
-            )
+            )?;
+            push_later_if(&mut mends, alloc, text, place)?;
+            Ok(mends)
         }
         RuleCause::Out { future_place, .. } => {
-            out_mends(alloc, text, word_at(text, *future_place), place)
+            let mut mends = out_mends(alloc, text, word_at(text, *future_place), place)?;
+            push_later_if(&mut mends, alloc, text, place)?;
+            Ok(mends)
+        }
+        RuleCause::OutAgain => {
+            let mut mends = Mends::new(alloc);
+            push_later(&mut mends, alloc, text, place)?;
+            Ok(mends)
         }
         RuleCause::NotOut { .. }
-        | RuleCause::OutAgain
         | RuleCause::OrderOpen { .. }
         | RuleCause::NotDeterministic { .. } => Ok(Mends::new(alloc)),
     }
