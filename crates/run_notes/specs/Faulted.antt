@@ -15,6 +15,7 @@ use Rattle.place_notes.specs.declared.note.Explanation.{Explanation}
 use Rattle.place_notes.specs.declared.note.Note.{Note}
 use Rattle.place_notes.specs.WordAt.{word_at}
 use Rattle.place_notes.specs.Notes.{note_at}
+use Rattle.run_notes.specs.CellsShown.{cells_shown}
 use Rattle.run_notes.specs.TaskTexts.{task_shown}
 
 -- what is wrong
@@ -96,10 +97,11 @@ fault_caption p st task = task_shown p st task ++ codes " meets the fault here"
 abbrev pub fault_notes : Program → State → List Making → ℕ → Place → List Note
 fault_notes p st makings task place = note_at place (fault_caption p st task) ∷ made_notes p st (making_of makings task)
 
--- what is said of a fault that a task of this text met in a run under these limits, which has come to this state
+-- what is said of a fault that a task of this text met in a run under these limits, which has come to this state, with what the
+-- cells hold then
 abbrev pub fault_explanation : List ℕ → Program → Bounds → State → List Making → ℕ → FaultKind → Place → Explanation
 fault_explanation text p lim st makings task kind place = record {
   headline = fault_headline kind;
   notes = fault_notes p st makings task place;
-  remarks = fault_remark lim p.cells (word_at text place) kind ∷ [];
+  remarks = fault_remark lim p.cells (word_at text place) kind ∷ cells_shown st.cells p.cells;
 }

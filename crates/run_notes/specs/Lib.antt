@@ -1,4 +1,5 @@
 pub mod TaskTexts
+pub mod CellsShown
 pub mod Faulted
 pub mod Waits
 pub mod Cycles

@@ -2,6 +2,7 @@
 ghost use Rattle.std.specs.Prelude.{◌≡◌, ◌∷◌, ◌++◌, [], IfOk, OnOk};
 ghost use Rattle.run_notes.specs.Faulted.{bounds_found, bounds_text, dims_named, fault_caption, fault_explanation, fault_headline, fault_notes, fault_remark, task_fuel_text, any_bound, grid_bounds, made_caption, made_notes, notes_if, row_bound, task_limit_text};
 
+use crate::cells_shown::push_cells_shown;
 use crate::task_texts::push_task;
 use itoa::Buffer;
 use place_notes::{Explanation, Note, word_at};
@@ -217,7 +218,8 @@ pub(crate) fn one_remark(alloc: Global, remark: Bytes) -> Result<List<Bytes>, Me
     Ok(remarks)
 }
 
-/// What is said of a fault that a task of this text met in a run under these limits, which has come to this state.
+/// What is said of a fault that a task of this text met in a run under these limits, which has come to this state, with what the
+/// cells hold then.
 pub(crate) fn fault_explanation(
     alloc: Global,
     text: &[u8],
@@ -230,10 +232,13 @@ pub(crate) fn fault_explanation(
     ensures { IfOk result (λ e. e ≡ fault_explanation text.now p.now lim st.now makings.now fault.task fault.kind fault.place) }
 {
     let word = word_at(text, fault.place);
-    let remark = fault_remark(alloc, lim, p.cells.as_slice(), word, fault.kind)?;
+    let cells = p.cells.as_slice();
+    let remark = fault_remark(alloc, lim, cells, word, fault.kind)?;
+    let mut remarks = one_remark(alloc, remark)?;
+    push_cells_shown(&mut remarks, alloc, st.cells.as_slice(), cells)?;
     Ok(Explanation {
         headline: Bytes::from_slice(alloc, fault_headline(fault.kind))?,
         notes: fault_notes(alloc, p, st, makings, fault.task, fault.place)?,
-        remarks: one_remark(alloc, remark)?,
+        remarks,
     })
 }

@@ -1,6 +1,7 @@
 //! What is said of a run: why it goes no further, or what may come next; and why a move of a journal is not legal.
 #![tactic(auto)]
 
+mod cells_shown;
 mod cycles;
 mod faulted;
 mod journals;

@@ -1,0 +1,38 @@
+-- What the cells hold at the end of a run.
+use Rattle.std.specs.Prelude.{ℕ, ◌-◌, ◌++◌, Bool, ℤ, List, [], ◌∷◌, codes, decimal, drop, if◌then◌else◌, length, map, nat_lt, take}
+use Rattle.twe_program.specs.declared.program.CellDecl.{CellDecl}
+use Rattle.twe_program.specs.Program.{size_of}
+use Rattle.run_texts.specs.TaskLabels.{listed_args}
+
+-- how many values of a declaration are shown at most
+abbrev pub most_values : ℕ
+most_values = 16
+
+-- of how many declarations the values are shown at most
+abbrev pub most_cells : ℕ
+most_cells = 8
+
+-- the values of a declaration, element by element, a grid row by row
+abbrev pub values_of : List ℤ → CellDecl → List ℤ
+values_of values cell = take (size_of cell.dims) (drop cell.first values)
+
+-- the first of them, and `..` if there are more
+abbrev pub listed_values : List ℤ → List ℕ
+listed_values values =
+    listed_args (take most_values values) ++ (if nat_lt most_values (length values) then codes ", .." else [])
+
+-- what the cells of a declaration hold, as `at the end d is 0, 1, 2, 3`
+abbrev pub cell_shown : List ℤ → CellDecl → List ℕ
+cell_shown values cell = codes "at the end `" ++ (cell.name ++ (codes "` is " ++ listed_values (values_of values cell)))
+
+-- how many declarations are left out
+abbrev pub left_out_text : ℕ → List ℕ
+left_out_text number = codes "declarations of cells that are left out here: " ++ decimal number
+
+-- the same, if some are left out
+abbrev pub left_out : ℕ → List (List ℕ)
+left_out count = if nat_lt most_cells count then left_out_text (count - most_cells) ∷ [] else []
+
+-- what the cells hold, declaration by declaration
+abbrev pub cells_shown : List ℤ → List CellDecl → List (List ℕ)
+cells_shown values cells = map (cell_shown values) (take most_cells cells) ++ left_out (length cells)
