@@ -26,13 +26,13 @@ abbrev pub cell_shown : List ℤ → CellDecl → List ℕ
 cell_shown values cell = codes "at the end `" ++ (cell.name ++ (codes "` is " ++ listed_values (values_of values cell)))
 
 -- how many declarations are left out
-abbrev pub left_out_text : ℕ → List ℕ
-left_out_text number = codes "declarations of cells that are left out here: " ++ decimal number
+abbrev pub cells_left_out_text : ℕ → List ℕ
+cells_left_out_text number = codes "declarations of cells that are left out here: " ++ decimal number
 
 -- the same, if some are left out
-abbrev pub left_out : ℕ → List (List ℕ)
-left_out count = if nat_lt most_cells count then left_out_text (count - most_cells) ∷ [] else []
+abbrev pub cells_left_out : ℕ → List (List ℕ)
+cells_left_out count = if nat_lt most_cells count then cells_left_out_text (count - most_cells) ∷ [] else []
 
 -- what the cells hold, declaration by declaration
 abbrev pub cells_shown : List ℤ → List CellDecl → List (List ℕ)
-cells_shown values cells = map (cell_shown values) (take most_cells cells) ++ left_out (length cells)
+cells_shown values cells = map (cell_shown values) (take most_cells cells) ++ cells_left_out (length cells)

@@ -1,6 +1,6 @@
 //! What the cells hold at the end of a run.
 ghost use Rattle.std.specs.Prelude.{◌≡◌, ◌++◌, ◌∷◌, [], drop, take, IfOk, OnOk, length, map};
-ghost use Rattle.run_notes.specs.CellsShown.{cell_shown, cells_shown, left_out, left_out_text, listed_values, most_cells, values_of};
+ghost use Rattle.run_notes.specs.CellsShown.{cell_shown, cells_shown, cells_left_out, cells_left_out_text, listed_values, most_cells, values_of};
 
 use itoa::Buffer;
 use run_texts::push_listed_args;
@@ -67,8 +67,8 @@ fn cell_shown(alloc: Global, values: &[i32], cell: &CellDecl) -> Result<Bytes, M
 }
 
 /// How many declarations are left out.
-fn left_out_text(alloc: Global, number: usize) -> Result<Bytes, Memory>
-    ensures { IfOk result (λ text. text ≡ left_out_text number) }
+fn cells_left_out_text(alloc: Global, number: usize) -> Result<Bytes, Memory>
+    ensures { IfOk result (λ text. text ≡ cells_left_out_text number) }
 {
     let mut text = Bytes::from_slice(alloc, b"declarations of cells that are left out here: ")?;
     text.push_all(Buffer::new().format(number).as_bytes())?;
@@ -76,11 +76,11 @@ fn left_out_text(alloc: Global, number: usize) -> Result<Bytes, Memory>
 }
 
 /// Adds how many of so many declarations are left out, if some are.
-fn push_left_out(remarks: &mut List<Bytes>, alloc: Global, count: usize) -> Result<(), Memory>
-    ensures { OnOk result (remarks.new ≡ remarks.old ++ left_out count) }
+fn push_cells_left_out(remarks: &mut List<Bytes>, alloc: Global, count: usize) -> Result<(), Memory>
+    ensures { OnOk result (remarks.new ≡ remarks.old ++ cells_left_out count) }
 {
     if MOST_CELLS < count {
-        remarks.push(left_out_text(alloc, count - MOST_CELLS)?)?;
+        remarks.push(cells_left_out_text(alloc, count - MOST_CELLS)?)?;
     }
     Ok(())
 }
@@ -121,5 +121,5 @@ pub(crate) fn push_cells_shown(
     ensures { OnOk result (remarks.new ≡ remarks.old ++ cells_shown values.now cells.now) }
 {
     push_each_cell(remarks, alloc, values, first_cells(cells))?;
-    push_left_out(remarks, alloc, cells.len())
+    push_cells_left_out(remarks, alloc, cells.len())
 }
