@@ -1,7 +1,6 @@
 -- A way after statements is that along a trail which goes on through them from the trail of a way before them.
 use Rattle.std.proofs.Common.{◌≡◌, ℕ, Bool, true, false, not, ◌&&◌, ◌||◌, ◌⊎◌, ◌∷◌, inl, inr, refl, sym, ap, ◌∙◌, if◌then◌else◌}
-use Rattle.std.specs.Prelude.{Option, None, Some, option_map}
-use Rattle.std.specs.Option.{option_or}
+use Rattle.std.specs.Prelude.{Option, None, Some, nat_lt, option_map}
 use Rattle.std.proofs.lemmas.Option.{none-some, same_Some}
 use Rattle.twe_program.specs.Statement.{Statement, Block, If, While, Return, Statements, no_more, statement, Arms, arm, otherwise, no_else}
 use Rattle.cover_flow.specs.ControlPath.{Path}
@@ -10,7 +9,7 @@ use Rattle.control_ways.specs.declared.way.Way.{Way}
 use Rattle.control_ways.specs.declared.ways.Ways.{Ways}
 use Rattle.control_ways.specs.Trail.{Goes, GoesAll, GoesOne}
 use Rattle.control_ways.specs.Ways.{way_along}
-use Rattle.control_ways.specs.inner.Traced.{nowhere, either, carried, stepped, traced, traced_all, traced_one}
+use Rattle.control_ways.specs.inner.Traced.{nowhere, shorter, either, carried, stepped, traced, traced_all, traced_one}
 use Rattle.control_ways.proofs.KeptLaws.{carried-along}
 
 -- the way on which the future is out, or is not
@@ -22,9 +21,14 @@ pub nowhere-none : (c : Bool) (w : Way) → get c nowhere ≡ Some w → ⊥
 nowhere-none true w h = none-some w h
 nowhere-none false w h = none-some w h
 
-or-from : (a b : Option Way) (w : Way) → option_or a b ≡ Some w → (a ≡ Some w) ⊎ (b ≡ Some w)
+shorter_by : (less : Bool) (x y w : Way) → (if less then Some y else Some x) ≡ Some w → (Some x ≡ Some w) ⊎ (Some y ≡ Some w)
+shorter_by true x y w h = inr h
+shorter_by false x y w h = inl h
+
+or-from : (a b : Option Way) (w : Way) → shorter a b ≡ Some w → (a ≡ Some w) ⊎ (b ≡ Some w)
 or-from None b w h = inr h
-or-from (Some x) b w h = inl h
+or-from (Some x) None w h = inl h
+or-from (Some x) (Some y) w h = shorter_by (nat_lt y.places.count x.places.count) x y w h
 
 pub either-from : (c : Bool) (a b : Ways) (w : Way) → get c (either a b) ≡ Some w → (get c a ≡ Some w) ⊎ (get c b ≡ Some w)
 either-from true a b w h = or-from a.out b.out w h
@@ -42,7 +46,7 @@ step puts takes b = puts || (not takes && b)
 abbrev Before : (Way → Way) → Bool → Bool → Ways → Bool → Way → Type 0
 Before g puts takes ways c w = (b : Bool) × (was : Way) × (get b ways ≡ Some was) × (w ≡ g was) × (step puts takes b ≡ c)
 
-map-either : (g : Way → Way) (ways : Ways) (w : Way) → option_or (option_map g ways.out) (option_map g ways.not_out) ≡ Some w
+map-either : (g : Way → Way) (ways : Ways) (w : Way) → shorter (option_map g ways.out) (option_map g ways.not_out) ≡ Some w
     → (b : Bool) × (was : Way) × (get b ways ≡ Some was) × (w ≡ g was)
 map-either g ways w h =
     elim (or-from (option_map g ways.out) (option_map g ways.not_out) w h) [
@@ -52,8 +56,8 @@ map-either g ways w h =
 
 abbrev after : (Way → Way) → Bool → Bool → Ways → Ways
 after g puts takes ways =
-    if puts then record { out = option_or (option_map g ways.out) (option_map g ways.not_out); not_out = None }
-    else (if takes then record { out = None; not_out = option_or (option_map g ways.out) (option_map g ways.not_out) }
+    if puts then record { out = shorter (option_map g ways.out) (option_map g ways.not_out); not_out = None }
+    else (if takes then record { out = None; not_out = shorter (option_map g ways.out) (option_map g ways.not_out) }
     else record { out = option_map g ways.out; not_out = option_map g ways.not_out })
 
 after-from : (g : Way → Way) (puts takes : Bool) (ways : Ways) (c : Bool) (w : Way) → get c (after g puts takes ways) ≡ Some w → Before g puts takes ways c w

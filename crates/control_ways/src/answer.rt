@@ -24,7 +24,7 @@ fn ways_to(body: &Body, point: u32, future: u32) -> Ways
 }
 
 /// A way to the point after which the future is out or, if `out` is false, is not. `None`: on no control path to the point
-/// is it so. It goes once through the body and, for each loop around a loop, once more through the inner one.
+/// is it so. It goes once through the body, and once more through the body of each loop for that loop and for each around it.
 pub fn way_to(body: &Body, point: u32, future: u32, out: bool) -> Option<Way>
     ensures some { IfSome result (IsWay body.now point future out) }
     ensures none { IfNone result (IsOnNone body.now point future out) }

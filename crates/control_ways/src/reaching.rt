@@ -18,7 +18,7 @@ pub struct Aim {
     pub end: u32,
 }
 
-/// Adds the ways to those found, where there are none, if they are at the point.
+/// Takes the shorter ones of the ways found and of these, if these are at the point.
 pub fn note(found: &mut Ways, at: u32, aim: Aim, ways: Ways)
     ensures { found.new ≡ noted aim.point at ways found.old }
 {

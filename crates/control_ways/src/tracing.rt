@@ -5,7 +5,7 @@ ghost use Rattle.control_ways.specs.inner.Traced.{nowhere, traced, traced_all, t
 use crate::ways::Ways;
 use twe_program::{Arms, Block, Stmt, StmtKind};
 
-/// The ways through a statement, from those before it. After a loop they are those before it and, where one is missing, that
+/// The shortest ways through a statement, from those before it. After a loop they are those before it or
 /// by one turn.
 #[cycle(trace)]
 pub fn trace_statement(stmt: &Stmt, future: u32, ways: Ways) -> Ways
@@ -15,9 +15,6 @@ pub fn trace_statement(stmt: &Stmt, future: u32, ways: Ways) -> Ways
         StmtKind::Block(body) => trace_block(body, future, ways),
         StmtKind::If(arms) => trace_arms(arms, future, ways),
         StmtKind::While { body, .. } => {
-            if ways.are_both() {
-                return ways;
-            }
             let turned = trace_block(body, future, ways.step(stmt, future));
             ways.or(turned)
         }

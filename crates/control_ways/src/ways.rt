@@ -1,7 +1,6 @@
 //! For a future: a way on which it is out, and one on which it is not.
-ghost use Rattle.std.specs.Prelude.{◌≡◌, ◌&&◌, is_some, option_map, Option as Maybe};
-ghost use Rattle.control_ways.specs.declared.way.Way.{Way as Shown};
-ghost use Rattle.control_ways.specs.inner.Traced.{carried, either, nowhere, stepped, start};
+ghost use Rattle.std.specs.Prelude.{◌≡◌, option_map};
+ghost use Rattle.control_ways.specs.inner.Traced.{carried, either, nowhere, shorter, start, stepped};
 
 use crate::way::{Way, puts_out, takes_in};
 use twe_program::Stmt;
@@ -22,6 +21,23 @@ fn carry(way: Option<Way>, stmt: &Stmt, future: u32) -> Option<Way>
     match way {
         None => None,
         Some(way) => Some(way.carry(stmt, future)),
+    }
+}
+
+/// Of two ways the one with fewer places, and the first one if they have as many.
+fn shorter(way: Option<Way>, other: Option<Way>) -> Option<Way>
+    ensures { result ≡ shorter way other }
+{
+    match (way, other) {
+        (None, other) => other,
+        (Some(way), None) => Some(way),
+        (Some(way), Some(other)) => {
+            if other.places.count < way.places.count {
+                Some(other)
+            } else {
+                Some(way)
+            }
+        }
     }
 }
 
@@ -46,20 +62,13 @@ impl Ways {
         }
     }
 
-    /// Whether there are both.
-    pub fn are_both(self) -> bool
-        ensures { result ≡ (is_some self.out && is_some self.not_out) }
-    {
-        self.out.is_some() && self.not_out.is_some()
-    }
-
-    /// These ways, and those of the other where there are none.
+    /// The shorter ones of these ways and the others.
     pub fn or(self, other: Ways) -> Ways
         ensures { result ≡ either self other }
     {
         Ways {
-            out: self.out.or(other.out),
-            not_out: self.not_out.or(other.not_out),
+            out: shorter(self.out, other.out),
+            not_out: shorter(self.not_out, other.not_out),
         }
     }
 
@@ -71,14 +80,14 @@ impl Ways {
         let not_out = carry(self.not_out, stmt, future);
         if puts_out(stmt, future) {
             return Ways {
-                out: out.or(not_out),
+                out: shorter(out, not_out),
                 not_out: None,
             };
         }
         if takes_in(stmt, future) {
             return Ways {
                 out: None,
-                not_out: out.or(not_out),
+                not_out: shorter(out, not_out),
             };
         }
         Ways { out, not_out }

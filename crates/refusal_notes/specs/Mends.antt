@@ -82,10 +82,10 @@ declared_mend (first ∷ others) text effect name place = effect_mend text effec
 abbrev pub mends_for : List ℕ → Place → RuleCause → List (List ℕ) → List written.Name → List Mend
 mends_for text place (Undeclared need declared decl_place) regions variables =
     declared_mend declared.effects text (effect_text regions variables need) (word_at text decl_place) decl_place ∷ []
-mends_for text place (Out need other future_place decl_place) regions variables =
+mends_for text place (Out need other future_place way decl_place) regions variables =
     out_mends text (word_at text future_place) place
-mends_for text place (NotOut future_place) regions variables = []
-mends_for text place OutAgain regions variables = []
+mends_for text place (NotOut future_place way) regions variables = []
+mends_for text place (OutAgain way) regions variables = []
 mends_for text place (OrderOpen makes decl_place) regions variables = []
 mends_for text place (NotDeterministic decl_place) regions variables = []
 

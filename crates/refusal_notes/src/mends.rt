@@ -284,7 +284,7 @@ pub(crate) fn mends_for(
             out_mends(alloc, text, word_at(text, *future_place), place)
         }
         RuleCause::NotOut { .. }
-        | RuleCause::OutAgain
+        | RuleCause::OutAgain { .. }
         | RuleCause::OrderOpen { .. }
         | RuleCause::NotDeterministic { .. } => Ok(Mends::new(alloc)),
     }

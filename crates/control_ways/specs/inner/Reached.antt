@@ -6,7 +6,7 @@ use Rattle.cover_flow.specs.ControlPath.{point_of, end_of}
 use Rattle.control_ways.specs.declared.ways.Ways.{Ways}
 use Rattle.control_ways.specs.inner.Traced.{nowhere, start, either, stepped, traced, traced_all}
 
--- the ways found, and these if they are at the point `to`
+-- the shorter ones of the ways found and of these, if these are at the point `to`
 abbrev pub noted : ℕ → ℕ → Ways → Ways → Ways
 noted to at ways found = if at == to then either found ways else found
 

@@ -1,6 +1,5 @@
 -- The ways through statements, on which a future is out and is not, from those before them.
-use Rattle.std.specs.Prelude.{ℕ, [], Option, None, Some, option_map, if◌then◌else◌}
-use Rattle.std.specs.Option.{option_or}
+use Rattle.std.specs.Prelude.{ℕ, nat_lt, [], Option, None, Some, option_map, if◌then◌else◌}
 use Rattle.twe_base.specs.declared.place.Place.{Place}
 use Rattle.twe_program.specs.Statement.{Statement, Block, If, While, Return, Statements, no_more, statement, Arms, arm, otherwise, no_else}
 use Rattle.cover_flow.specs.Out.{puts_out, takes_in}
@@ -20,9 +19,15 @@ nowhere = record { out = None; not_out = None }
 abbrev pub start : Ways
 start = record { out = None; not_out = Some (way_along 0 []) }
 
--- those ways and, where there are none, these
+-- of two ways the one with fewer places, and the first one if they have as many
+abbrev pub shorter : Option Way → Option Way → Option Way
+shorter None b = b
+shorter (Some way) None = Some way
+shorter (Some way) (Some other) = if nat_lt other.places.count way.places.count then Some other else Some way
+
+-- where two courses meet: the shorter ways of both
 abbrev pub either : Ways → Ways → Ways
-either a b = record { out = option_or a.out b.out; not_out = option_or a.not_out b.not_out }
+either a b = record { out = shorter a.out b.out; not_out = shorter a.not_out b.not_out }
 
 -- the places with this one, if there is one
 abbrev pub with_place : Option Place → Places → Places
@@ -41,8 +46,8 @@ abbrev pub stepped : ℕ → Statement → Ways → Ways
 stepped f s ways =
     let out = option_map (carried f s) ways.out in
     let not_out = option_map (carried f s) ways.not_out in
-    if puts_out f s then record { out = option_or out not_out; not_out = None }
-    else (if takes_in f s then record { out = None; not_out = option_or out not_out }
+    if puts_out f s then record { out = shorter out not_out; not_out = None }
+    else (if takes_in f s then record { out = None; not_out = shorter out not_out }
     else record { out = out; not_out = not_out })
 
 -- the ways after a statement; no way goes on after a `return`, and after a loop come those before it and those by one turn
