@@ -8,12 +8,12 @@ use Rattle.twe_program.specs.Statement.{Statement}
 use Rattle.cover_flow.specs.ControlPath.{Path}
 use Rattle.cover_flow.specs.Out.{puts_out, takes_in}
 use Rattle.control_ways.specs.declared.places.Four.{Four}
-use Rattle.control_ways.specs.declared.places.Places.{Places}
+use Rattle.control_ways.specs.declared.places.KeptPlaces.{KeptPlaces}
 use Rattle.control_ways.specs.declared.way.Begins.{Begins}
 use Rattle.control_ways.specs.declared.way.Begins.TheVariants.{Spawn, Join}
 use Rattle.control_ways.specs.declared.way.Way.{Way}
 use Rattle.control_ways.specs.Places.{first_four, kept}
-use Rattle.control_ways.specs.Ways.{place_of, begins_of, places_since, way_along}
+use Rattle.control_ways.specs.Ways.{shown_at, begins_of, places_since, way_along}
 use Rattle.control_ways.specs.inner.Keeping.{with_next, one_more, kept_with}
 use Rattle.control_ways.specs.inner.Traced.{with_place, carried}
 
@@ -27,7 +27,7 @@ first_four-next (a ∷ b ∷ c ∷ d ∷ more) place = refl
 one_more-min : (n : ℕ) → one_more (min n 9) ≡ min (suc n) 9
 one_more-min n = grind (arith, nat_tests)
 
-abbrev places : Four → Four → ℕ → Places
+abbrev places : Four → Four → ℕ → KeptPlaces
 places first last count = record { first = first; last = last; count = count }
 
 kept-more : (place : Place) (xs : List Place) → kept_with place (kept xs) ≡ kept (place ∷ xs)
@@ -40,7 +40,7 @@ with_place-kept : (place : Option Place) (xs : List Place) → with_place place 
 with_place-kept None xs = refl
 with_place-kept (Some place) xs = kept-more place xs
 
-abbrev way : Begins → Places → Way
+abbrev way : Begins → KeptPlaces → Way
 way begins places = record { begins = begins; places = places }
 
 -- by whether the statement spawns into the future, or joins it
@@ -52,4 +52,4 @@ carried_by false true place begins xs = ap (way Join) (with_place-kept place [])
 carried_by false false place begins xs = ap (way begins) (with_place-kept place xs)
 
 pub carried-along : (f : ℕ) (s : Statement) (trail : Path) → carried f s (way_along f trail) ≡ way_along f (s ∷ trail)
-carried-along f s trail = carried_by (puts_out f s) (takes_in f s) (place_of s) (begins_of f trail) (places_since f trail)
+carried-along f s trail = carried_by (puts_out f s) (takes_in f s) (shown_at s) (begins_of f trail) (places_since f trail)

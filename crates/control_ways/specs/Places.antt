@@ -2,7 +2,7 @@
 use Rattle.std.specs.Prelude.{List, reverse, length, min, slice_get}
 use Rattle.twe_base.specs.declared.place.Place.{Place}
 use Rattle.control_ways.specs.declared.places.Four.{Four}
-use Rattle.control_ways.specs.declared.places.Places.{Places}
+use Rattle.control_ways.specs.declared.places.KeptPlaces.{KeptPlaces}
 
 -- the first four of these places, or all of them if they are fewer
 abbrev pub first_four : List Place → Four
@@ -14,7 +14,7 @@ first_four places = record {
 }
 
 -- what is kept of places that are given with the latest first: the first four, the last four, and how many there are
-abbrev pub kept : List Place → Places
+abbrev pub kept : List Place → KeptPlaces
 kept latest = record {
   first = first_four (reverse latest);
   last = first_four latest;

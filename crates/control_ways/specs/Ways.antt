@@ -12,16 +12,16 @@ use Rattle.control_ways.specs.Places.{kept}
 use Rattle.control_ways.specs.Trail.{ControlTrail}
 
 -- the place at which a statement shows, if it has one; the making of a task shows at the name of the future
-abbrev pub place_of : Statement → Option Place
-place_of (SetCell point cell value place) = Some place
-place_of (SetArray point array index value place) = Some place
-place_of (SetGrid point array row column value place) = Some place
-place_of (While point condition body place) = Some place
-place_of (Print point value place) = Some place
-place_of (Call point method args place) = Some place
-place_of (Make point future task args spawned future_place place) = Some future_place
-place_of (Wait point future join into place) = Some place
-place_of s = None
+abbrev pub shown_at : Statement → Option Place
+shown_at (SetCell point cell value place) = Some place
+shown_at (SetArray point array index value place) = Some place
+shown_at (SetGrid point array row column value place) = Some place
+shown_at (While point condition body place) = Some place
+shown_at (Print point value place) = Some place
+shown_at (Call point method args place) = Some place
+shown_at (Make point future task args spawned future_place place) = Some future_place
+shown_at (Wait point future join into place) = Some place
+shown_at s = None
 
 -- the statement spawns into the future, or joins it
 abbrev pub settles : ℕ → Statement → Bool
@@ -35,7 +35,7 @@ begins_of f (s ∷ earlier) = if puts_out f s then Spawn else (if takes_in f s t
 -- the places of a trail from the latest spawn or join of the future on, the latest first
 abbrev pub places_since : ℕ → Path → List Place
 places_since f [] = []
-places_since f (s ∷ earlier) = option_to_list (place_of s) ++ (if settles f s then [] else places_since f earlier)
+places_since f (s ∷ earlier) = option_to_list (shown_at s) ++ (if settles f s then [] else places_since f earlier)
 
 -- the way along a trail
 abbrev pub way_along : ℕ → Path → Way

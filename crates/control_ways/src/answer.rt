@@ -3,7 +3,7 @@ ghost use Rattle.std.specs.Prelude.{◌≡◌, IfNone, IfSome};
 ghost use Rattle.control_ways.specs.Ways.{IsOnNone, IsWay};
 ghost use Rattle.control_ways.specs.inner.Reached.{found_in};
 
-use crate::reaching::{Aim, note, reach_block};
+use crate::reaching::{Aim, note_ways, reach_block};
 use crate::way::Way;
 use crate::ways::Ways;
 use twe_program::Body;
@@ -19,7 +19,7 @@ fn ways_to(body: &Body, point: u32, future: u32) -> Ways
     };
     let mut found = Ways::nowhere();
     let last = reach_block(&mut found, &body.block, aim, Ways::at_start());
-    note(&mut found, aim.end, aim, last);
+    note_ways(&mut found, aim.end, aim, last);
     found
 }
 

@@ -12,5 +12,5 @@ mod ways;
 
 pub use answer::way_to;
 pub use laws::trails_are_control_paths;
-pub use places::{Four, Places};
+pub use places::{Four, KeptPlaces};
 pub use way::{Begins, Way};

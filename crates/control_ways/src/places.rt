@@ -73,7 +73,7 @@ impl Four {
 
 /// Places in order: all of them, or of more than eight the first four and the last four.
 #[derive(Clone, Copy, Debug)]
-pub struct Places {
+pub struct KeptPlaces {
     /// The first four, in order.
     pub first: Four,
     /// The last four, the last one first.
@@ -82,9 +82,9 @@ pub struct Places {
     pub count: u8,
 }
 
-impl Places {
+impl KeptPlaces {
     /// No places.
-    pub(crate) fn none() -> Places
+    pub(crate) fn none() -> KeptPlaces
         ensures { result ≡ kept [] }
     {
         let none = Four {
@@ -93,7 +93,7 @@ impl Places {
             three: None,
             four: None,
         };
-        Places {
+        KeptPlaces {
             first: none,
             last: none,
             count: 0,
@@ -101,10 +101,10 @@ impl Places {
     }
 
     /// With one more place at the end.
-    pub(crate) fn with(self, place: Place) -> Places
+    pub(crate) fn with(self, place: Place) -> KeptPlaces
         ensures { result ≡ kept_with place self }
     {
-        Places {
+        KeptPlaces {
             first: self.first.with_next(place),
             last: self.last.with_front(place),
             count: if self.count < 9 { self.count + 1 } else { 9 },

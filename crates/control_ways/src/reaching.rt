@@ -19,7 +19,7 @@ pub struct Aim {
 }
 
 /// Takes the shorter ones of the ways found and of these, if these are at the point.
-pub fn note(found: &mut Ways, at: u32, aim: Aim, ways: Ways)
+pub fn note_ways(found: &mut Ways, at: u32, aim: Aim, ways: Ways)
     ensures { found.new ≡ noted aim.point at ways found.old }
 {
     if at == aim.point {
@@ -35,26 +35,26 @@ fn reach_statement(found: &mut Ways, stmt: &Stmt, aim: Aim, ways: Ways) -> Ways
 {
     match &stmt.kind {
         StmtKind::Block(body) => {
-            note(found, stmt.point, aim, ways);
+            note_ways(found, stmt.point, aim, ways);
             reach_block(found, body, aim, ways)
         }
         StmtKind::If(arms) => {
-            note(found, stmt.point, aim, ways);
+            note_ways(found, stmt.point, aim, ways);
             reach_arms(found, arms, aim, ways)
         }
         StmtKind::While { body, .. } => {
             let head = trace_statement(stmt, aim.future, ways);
-            note(found, stmt.point, aim, head);
+            note_ways(found, stmt.point, aim, head);
             reach_block(found, body, aim, head.step(stmt, aim.future));
             head
         }
         StmtKind::Return(_) => {
-            note(found, stmt.point, aim, ways);
-            note(found, aim.end, aim, ways);
+            note_ways(found, stmt.point, aim, ways);
+            note_ways(found, aim.end, aim, ways);
             Ways::nowhere()
         }
         _ => {
-            note(found, stmt.point, aim, ways);
+            note_ways(found, stmt.point, aim, ways);
             ways.step(stmt, aim.future)
         }
     }

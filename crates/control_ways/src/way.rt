@@ -1,10 +1,10 @@
 //! A way: what a control path carries out from the latest spawn or join of a future on.
 ghost use Rattle.std.specs.Prelude.{◌≡◌, []};
 ghost use Rattle.cover_flow.specs.Out.{puts_out, takes_in};
-ghost use Rattle.control_ways.specs.Ways.{place_of, way_along};
+ghost use Rattle.control_ways.specs.Ways.{shown_at, way_along};
 ghost use Rattle.control_ways.specs.inner.Traced.{carried, with_place};
 
-use crate::places::Places;
+use crate::places::KeptPlaces;
 use twe_base::Place;
 use twe_program::{Stmt, StmtKind};
 
@@ -26,12 +26,12 @@ pub struct Way {
     pub begins: Begins,
     /// The places of its statements that have one, and of the loops whose turns it enters, in the order of the path. A
     /// spawn is at the place of its future's name. If it begins at a spawn or a join, the first place is that of it.
-    pub places: Places,
+    pub places: KeptPlaces,
 }
 
 /// The place at which a statement shows, if it has one. An `executeLater` and a spawn show at the future's name.
-fn place_of(stmt: &Stmt) -> Option<Place>
-    ensures { result ≡ place_of stmt.now }
+fn shown_at(stmt: &Stmt) -> Option<Place>
+    ensures { result ≡ shown_at stmt.now }
 {
     match &stmt.kind {
         StmtKind::SetCell { place, .. } | StmtKind::SetAt { place, .. } => Some(*place),
@@ -71,10 +71,10 @@ pub fn takes_in(stmt: &Stmt, future: u32) -> bool
 }
 
 /// The places with that of the statement, if it has one.
-fn with_place(places: Places, stmt: &Stmt) -> Places
-    ensures { result ≡ with_place (place_of stmt.now) places }
+fn with_place(places: KeptPlaces, stmt: &Stmt) -> KeptPlaces
+    ensures { result ≡ with_place (shown_at stmt.now) places }
 {
-    match place_of(stmt) {
+    match shown_at(stmt) {
         None => places,
         Some(place) => places.with(place),
     }
@@ -87,7 +87,7 @@ impl Way {
     {
         Way {
             begins: Begins::Start,
-            places: Places::none(),
+            places: KeptPlaces::none(),
         }
     }
 
@@ -98,13 +98,13 @@ impl Way {
         if puts_out(stmt, future) {
             return Way {
                 begins: Begins::Spawn,
-                places: with_place(Places::none(), stmt),
+                places: with_place(KeptPlaces::none(), stmt),
             };
         }
         if takes_in(stmt, future) {
             return Way {
                 begins: Begins::Join,
-                places: with_place(Places::none(), stmt),
+                places: with_place(KeptPlaces::none(), stmt),
             };
         }
         Way {

@@ -2,7 +2,7 @@
 use Rattle.std.specs.Prelude.{ℕ, nat_lt, if◌then◌else◌, List, [], ◌∷◌, ◌++◌, Option, None, Some, codes}
 use Rattle.twe_base.specs.declared.place.Place.{Place}
 use Rattle.control_ways.specs.declared.places.Four.{Four}
-use Rattle.control_ways.specs.declared.places.Places.{Places}
+use Rattle.control_ways.specs.declared.places.KeptPlaces.{KeptPlaces}
 use Rattle.control_ways.specs.declared.way.Begins.{Begins}
 use Rattle.control_ways.specs.declared.way.Begins.TheVariants.{Start, Spawn, Join}
 use Rattle.control_ways.specs.declared.way.Way.{Way}
@@ -35,8 +35,8 @@ last_text count p =
     ++ next_text (if nat_lt 4 count then p.one else None)))
 
 -- all places or, of more than eight, the first four, two dots and the last four
-abbrev pub places_text : Places → List ℕ
-places_text places = four_text places.first ++ (dots_text places.count ++ last_text places.count places.last)
+abbrev pub way_places_text : KeptPlaces → List ℕ
+way_places_text places = four_text places.first ++ (dots_text places.count ++ last_text places.count places.last)
 
 -- what stands before this many places of a way that begins so
 abbrev pub heading_text : Begins → ℕ → List ℕ
@@ -48,7 +48,7 @@ heading_text Start count =
 
 -- what is said of a way
 abbrev pub way_text : Way → List ℕ
-way_text way = heading_text way.begins way.places.count ++ places_text way.places
+way_text way = heading_text way.begins way.places.count ++ way_places_text way.places
 
 -- a remark on the way, if there is one
 abbrev pub way_remarks : Option Way → List (List ℕ)

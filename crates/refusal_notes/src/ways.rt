@@ -1,9 +1,9 @@
 //! What is said of a way.
 ghost use Rattle.std.specs.Prelude.{◌≡◌, ◌++◌, OnOk};
 ghost use Rattle.twe_report.specs.Texts.{place_text};
-ghost use Rattle.refusal_notes.specs.Ways.{dots_text, first_text, four_text, heading_text, last_text, next_text, places_text, way_remarks, way_text};
+ghost use Rattle.refusal_notes.specs.Ways.{dots_text, first_text, four_text, heading_text, last_text, next_text, way_places_text, way_remarks, way_text};
 
-use control_ways::{Begins, Four, Places, Way};
+use control_ways::{Begins, Four, KeptPlaces, Way};
 use itoa::Buffer;
 use std::alloc::Global;
 use twe_base::{Bytes, List, Memory, Place};
@@ -72,8 +72,8 @@ fn push_last(text: &mut Bytes, count: u8, places: Four) -> Result<(), Memory>
 }
 
 /// Appends all places or, of more than eight, the first four, two dots and the last four.
-fn push_places(text: &mut Bytes, places: &Places) -> Result<(), Memory>
-    ensures { OnOk result (text.new ≡ text.old ++ places_text places.now) }
+fn push_places(text: &mut Bytes, places: &KeptPlaces) -> Result<(), Memory>
+    ensures { OnOk result (text.new ≡ text.old ++ way_places_text places.now) }
 {
     push_four(text, places.first)?;
     push_dots(text, places.count)?;

@@ -2,7 +2,7 @@
 use Rattle.std.specs.Prelude.{ℕ, ◌+◌, nat_lt, if◌then◌else◌, None, Some, is_none}
 use Rattle.twe_base.specs.declared.place.Place.{Place}
 use Rattle.control_ways.specs.declared.places.Four.{Four}
-use Rattle.control_ways.specs.declared.places.Places.{Places}
+use Rattle.control_ways.specs.declared.places.KeptPlaces.{KeptPlaces}
 
 -- at the end, if there are fewer than four
 abbrev pub with_next : Place → Four → Four
@@ -22,7 +22,7 @@ abbrev pub one_more : ℕ → ℕ
 one_more n = if nat_lt n 9 then n + 1 else 9
 
 -- the places with one more at the end
-abbrev pub kept_with : Place → Places → Places
+abbrev pub kept_with : Place → KeptPlaces → KeptPlaces
 kept_with place p = record {
   first = with_next place p.first;
   last = with_front place p.last;

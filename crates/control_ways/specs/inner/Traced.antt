@@ -3,12 +3,12 @@ use Rattle.std.specs.Prelude.{ℕ, nat_lt, [], Option, None, Some, option_map, i
 use Rattle.twe_base.specs.declared.place.Place.{Place}
 use Rattle.twe_program.specs.Statement.{Statement, Block, If, While, Return, Statements, no_more, statement, Arms, arm, otherwise, no_else}
 use Rattle.cover_flow.specs.Out.{puts_out, takes_in}
-use Rattle.control_ways.specs.declared.places.Places.{Places}
+use Rattle.control_ways.specs.declared.places.KeptPlaces.{KeptPlaces}
 use Rattle.control_ways.specs.declared.way.Begins.TheVariants.{Spawn, Join}
 use Rattle.control_ways.specs.declared.way.Way.{Way}
 use Rattle.control_ways.specs.declared.ways.Ways.{Ways}
 use Rattle.control_ways.specs.Places.{kept}
-use Rattle.control_ways.specs.Ways.{place_of, way_along}
+use Rattle.control_ways.specs.Ways.{shown_at, way_along}
 use Rattle.control_ways.specs.inner.Keeping.{kept_with}
 
 -- no path comes
@@ -30,16 +30,16 @@ abbrev pub either : Ways → Ways → Ways
 either a b = record { out = shorter a.out b.out; not_out = shorter a.not_out b.not_out }
 
 -- the places with this one, if there is one
-abbrev pub with_place : Option Place → Places → Places
+abbrev pub with_place : Option Place → KeptPlaces → KeptPlaces
 with_place None places = places
 with_place (Some place) places = kept_with place places
 
 -- the way that goes on by this statement
 abbrev pub carried : ℕ → Statement → Way → Way
 carried f s way =
-    if puts_out f s then record { begins = Spawn; places = with_place (place_of s) (kept []) }
-    else (if takes_in f s then record { begins = Join; places = with_place (place_of s) (kept []) }
-    else record { begins = way.begins; places = with_place (place_of s) way.places })
+    if puts_out f s then record { begins = Spawn; places = with_place (shown_at s) (kept []) }
+    else (if takes_in f s then record { begins = Join; places = with_place (shown_at s) (kept []) }
+    else record { begins = way.begins; places = with_place (shown_at s) way.places })
 
 -- the ways that go on by this statement
 abbrev pub stepped : ℕ → Statement → Ways → Ways
