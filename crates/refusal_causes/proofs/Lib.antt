@@ -4,6 +4,8 @@ pub mod Needs
 pub mod Covering
 pub mod Joins
 pub mod Complete
+-- Where a future may be out, or is not surely out, there is a way that shows it.
+pub mod WaysThere
 -- The steps of the searches.
 pub mod Loops
 -- One token more that is tried.

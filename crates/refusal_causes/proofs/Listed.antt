@@ -28,7 +28,7 @@ use Rattle.refusal_causes.proofs.Needs.{is_there, same_place}
 
 -- the program fails the rule, and this is a cause
 abbrev pub FailsBy : Program → RuleCause → EffectFailure → Type 0
-FailsBy p cause f = FailsEffect p f.rule f.place × IsCause p f.rule f.place cause
+FailsBy p cause f = FailsEffect p f.rule f.place × IsCause p false f.rule f.place cause
 
 module _ (p : Program) where
   -- ---- an effect that is not declared
@@ -91,21 +91,21 @@ module _ (p : Program) where
 
   module _ (task : Decl) (inside : Contains p.tasks task) where
     -- ---- an effect that is barred
-    module _ (point : ℕ) (needs : List Effect) (bar : SpawnBar) (barred : IsSpawnBar p task point needs bar) where
+    module _ (point : ℕ) (needs : List Effect) (bar : SpawnBar) (barred : IsSpawnBar p false task point needs bar) where
       not_free : CoveredAt p task point bar.need → ⊥
       not_free covered =
           let b = barred.1 in
           covered.free b.at b.future b.deterministic b.effects bar.future_place b.place b.spawns b.out bar.other b.has b.interferes
 
       abbrev pub out_cause : RuleCause
-      out_cause = Out bar.need bar.other bar.future_place task.place
+      out_cause = Out bar.need bar.other bar.future_place bar.way task.place
 
       -- the rule on needs fails
       pub barred_fails : (kind : ActKind) → needs ≡ needs_of kind → Does p task point kind → (f : EffectFailure) → need_at false kind ≡ Some f
           → FailsBy p out_cause f
       barred_fails kind is does f at = by_kind kind (subst (λ (xs : List Effect). Contains xs bar.need) is barred.0) does at where
         caused : (k : ActKind) (place : Place) → Contains (needs_of k) bar.need → Does p task point k → IsTrue (needs_at place k)
-            → (rule : ERule) → IsTrue (is_of_needs rule) → IsCauseIn p rule place task out_cause
+            → (rule : ERule) → IsTrue (is_of_needs rule) → IsCauseIn p false rule place task out_cause
         caused k place needed done there rule of = (
           of,
           refl,
@@ -167,12 +167,12 @@ module _ (p : Program) where
     child_fails point (Wait future join at) place does such strict = absurd (false≢true such)
 
     -- what has a cause fails
-    pub cause_fails : (rule : ERule) (place : Place) (cause : RuleCause) → is_of_needs rule ≡ false → IsCauseIn p rule place task cause
+    pub cause_fails : (rule : ERule) (place : Place) (cause : RuleCause) → is_of_needs rule ≡ false → IsCauseIn p false rule place task cause
         → FailsBy p cause (record { rule = rule; place = place })
     cause_fails rule place (Undeclared need declared decl_place) late h = absurd (false≢true (sym late ∙ h.0))
-    cause_fails rule place (Out need other future_place decl_place) late h = absurd (false≢true (sym late ∙ h.0))
-    cause_fails rule place (NotOut made) late h =
-        subst (λ (r : ERule). FailsBy p (NotOut made) (record { rule = r; place = place })) (sym h.0) (
+    cause_fails rule place (Out need other future_place way decl_place) late h = absurd (false≢true (sym late ∙ h.0))
+    cause_fails rule place (NotOut made way) late h =
+        subst (λ (r : ERule). FailsBy p (NotOut made way) (record { rule = r; place = place })) (sym h.0) (
           inl (
             task,
             inside,
@@ -181,8 +181,8 @@ module _ (p : Program) where
           ),
           (task, inside, (refl, h.1)),
         )
-    cause_fails rule place OutAgain late h =
-        subst (λ (r : ERule). FailsBy p OutAgain (record { rule = r; place = place })) (sym h.0) (
+    cause_fails rule place (OutAgain way) late h =
+        subst (λ (r : ERule). FailsBy p (OutAgain way) (record { rule = r; place = place })) (sym h.0) (
           inl (
             task,
             inside,

@@ -1,5 +1,5 @@
 -- What an act that is found at a place needs there, and why it lacks it.
-use Rattle.std.proofs.Common.{◌≡◌, ℕ, true, List, Option, None, Some, Result, Ok, Err, IsTrue, IfOk, IfSome, Contains, refl, ap, ◌∙◌, subst}
+use Rattle.std.proofs.Common.{◌≡◌, ℕ, Bool, true, List, Option, None, Some, Result, Ok, Err, IsTrue, IfOk, IfSome, Contains, refl, ap, ◌∙◌, subst}
 use Rattle.std.specs.Prelude.{IfNone, ◌==◌}
 use Rattle.std.proofs.lemmas.Bool.Decides.{Decides-eqb}
 use Rattle.twe_base.specs.declared.memory.Memory as out_of
@@ -46,15 +46,15 @@ none_weaker P Q weaker (Err memory) h = tt
 -- a lack of what is needed for an act at the place is a cause there
 pub lack_causes : (p : Program) (rule : ERule) (place : Place) (decl : Decl) (point : ℕ) (kind : ActKind) (needs : List Effect)
     → IsTrue (is_of_needs rule) → Does p decl point kind → IsTrue (needs_at place kind) → needs ≡ needs_of kind
-    → (cause : RuleCause) → IsLack p decl point needs cause → IsCauseIn p rule place decl cause
-lack_causes p rule place decl point kind needs of does there is cause lack = by_cause cause lack where
+    → (ways : Bool) (cause : RuleCause) → IsLack p ways decl point needs cause → IsCauseIn p ways rule place decl cause
+lack_causes p rule place decl point kind needs of does there is ways cause lack = by_cause cause lack where
   here : (need : Effect) → Contains needs need → NeedsAt p decl point place need
   here need inside = record { kind = kind; does = does; there = there; needs = subst (λ (xs : List Effect). Contains xs need) is inside }
 
-  by_cause : (cause : RuleCause) → IsLack p decl point needs cause → IsCauseIn p rule place decl cause
+  by_cause : (cause : RuleCause) → IsLack p ways decl point needs cause → IsCauseIn p ways rule place decl cause
   by_cause (Undeclared need declared decl_place) h = (of, h.0, h.1, record { point = point; needs = here need h.2; outside = h.3 })
-  by_cause (Out need other future_place decl_place) h = (of, h.0, record { point = point; needs = here need h.1; barred = h.2 })
-  by_cause (NotOut future_place) h = absurd h
-  by_cause OutAgain h = absurd h
+  by_cause (Out need other future_place way decl_place) h = (of, h.0, record { point = point; needs = here need h.1; barred = h.2 })
+  by_cause (NotOut future_place way) h = absurd h
+  by_cause (OutAgain way) h = absurd h
   by_cause (OrderOpen makes decl_place) h = absurd h
   by_cause (NotDeterministic decl_place) h = absurd h

@@ -19,13 +19,14 @@ use Rattle.refusal_causes.specs.declared.explained.Explained.TheVariants.{Kept, 
 use Rattle.refusal_causes.specs.Causes.{IsCauseOf}
 use Rattle.refusal_causes.specs.NextTokens.{AreNextAt}
 
--- this is the refusal of the text, which has this tree and means this program, and the cause is true of it
+-- this is the refusal of the text, which has this tree and means this program, and the cause is true of it, with a way if it
+-- speaks of a future
 pub record IsCausedBy (text : List ℕ) (refusal : Refusal) (cause : RuleCause) (tree : Ast) (p : Program) : Type 0 where
   pub refused : IsRefusal text refusal
   pub parsed : IsTreeOf text tree
   pub meant : IsMeaningOf text p
   pub of_tree : p ≡ program_of tree
-  pub caused : IsCauseOf p refusal.rule refusal.place cause
+  pub caused : IsCauseOf p true refusal.rule refusal.place cause
 
 -- the rule is the one of stray tokens, or that of texts that end too early
 abbrev pub is_of_tokens : RuleName → Bool

@@ -1,5 +1,5 @@
 -- All failures of the rules on effects, with their causes, in the order of the text.
-use Rattle.std.specs.Prelude.{◌≡◌, ◌⊎◌, ◌<◌, List, [], ◌∷◌, Contains}
+use Rattle.std.specs.Prelude.{◌≡◌, ◌⊎◌, ◌<◌, false, List, [], ◌∷◌, Contains}
 use Rattle.std.specs.List.{All}
 use Rattle.twe_base.specs.declared.place.Place.{Place}
 use Rattle.twe_base.specs.Order.{IsEarlier}
@@ -9,10 +9,10 @@ use Rattle.effect_check.specs.FailsEffect.{FailsEffect, effect_rule_number}
 use Rattle.refusal_causes.specs.declared.found.CausedFailure.{CausedFailure}
 use Rattle.refusal_causes.specs.Causes.{IsCause}
 
--- the program fails the rule at the place, and the cause is true of it
+-- the program fails the rule at the place, and the cause is true of it; it has no way
 pub record IsCausedFailure (p : Program) (failure : CausedFailure) : Type 0 where
   pub fails : FailsEffect p failure.rule failure.place
-  pub caused : IsCause p failure.rule failure.place failure.cause
+  pub caused : IsCause p false failure.rule failure.place failure.cause
 
 -- the first failure is at an earlier place than the second, or at the same place by a rule with a lower number
 abbrev pub StandsBefore : CausedFailure → CausedFailure → Type 0

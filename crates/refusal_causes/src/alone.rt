@@ -80,7 +80,7 @@ pub fn note_of_task(
 ) -> Result<(), Memory>
     requires inside { Contains p.now.tasks task.now }
     requires late { is_of_needs rule ≡ false }
-    requires caused { IsCauseIn p.now rule place task.now cause }
+    requires caused { IsCauseIn p.now false rule place task.now cause }
     ensures grows { OnOk result (Grows p.now found.old found.new) }
     ensures listed { OnOk result (¬ IsUnlisted found.new rule place) }
 {

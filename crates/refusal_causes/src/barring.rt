@@ -1,21 +1,31 @@
 //! A spawned task that bars one of several effects: it may be out, and has an effect that interferes.
-ghost use Rattle.std.specs.Prelude.{◌≡◌, ◌<◌, false, IfNone, IfOk, IfSome, IsTrue, Contains, OnOk};
+ghost use Rattle.std.specs.Prelude.{◌≡◌, ◌<◌, false, true, IfNone, IfOk, IfSome, IsTrue, Contains, OnOk};
 ghost use Rattle.std.specs.List.{All};
 ghost use Rattle.twe_program.specs.WellFormed.{DeclFits};
 ghost use Rattle.cover_flow.specs.Flow.{IsFlowOf, is_among};
-ghost use Rattle.cover_flow.specs.Out.{MayBeOut};
 ghost use Rattle.effect_sets.specs.Interference.{statically_interferes};
 ghost use Rattle.effect_check.specs.Acts.{acts_in_all};
 ghost use Rattle.effect_check.specs.Covered.{Does};
-ghost use Rattle.refusal_causes.specs.Barring.{IsPair, IsSpawnBar};
+ghost use Rattle.refusal_causes.specs.Barring.{IsFutureBar, IsPair, IsSpawnBar};
 ghost use Rattle.refusal_causes.specs.inner.Keeping.{AreFreeOf, BarsNone, IsDone, IsFollowed, IsFreeOf, IsNoBar};
 
+use crate::showing::way_if;
+use control_ways::Way;
 use cover_flow::{Points, flow};
 use effect_check::{Act, ActKind};
 use effect_sets::{Effect, Summary, interferes};
 use std::alloc::Global;
 use twe_base::{Memory, Place};
 use twe_program::{Body, Decl, Prog};
+
+/// An effect that is needed, and one that interferes with it.
+#[derive(Debug, Drop)]
+pub struct Pair {
+    /// The effect that is needed.
+    pub need: Effect,
+    /// The effect of the spawned task.
+    pub other: Effect,
+}
 
 /// An effect that is needed, one of a spawned task that bars it, and the place of the future's name.
 #[derive(Debug, Drop)]
@@ -26,6 +36,8 @@ pub struct SpawnBar {
     pub other: Effect,
     /// The place of the future's name.
     pub future_place: Place,
+    /// A way on which the future is out, if ways are wanted.
+    pub way: Option<Way>,
 }
 
 /// The first of the other effects that interferes with the effect, if one does.
@@ -47,24 +59,15 @@ fn first_interfering(
 }
 
 /// The first of the needed effects that interferes with one of the others, if one does.
-fn first_pair(
-    alloc: Global,
-    needs: &[Effect],
-    others: &Summary,
-    future_place: Place,
-) -> Result<Option<SpawnBar>, Memory>
-    ensures found { IfOk result (λ found. IfSome found (IsPair needs.now others.now future_place)) }
+fn first_pair(alloc: Global, needs: &[Effect], others: &Summary) -> Result<Option<Pair>, Memory>
+    ensures found { IfOk result (λ found. IfSome found (IsPair needs.now others.now)) }
     ensures none { IfOk result (λ found. IfNone found (All (IsFreeOf others.now) needs.now)) }
 {
     for need in needs {
         let interfering = first_interfering(alloc, need, others)?;
         if let Some(other) = interfering {
             let need = need.copy(alloc)?;
-            return Ok(Some(SpawnBar {
-                need,
-                other,
-                future_place,
-            }));
+            return Ok(Some(Pair { need, other }));
         }
     }
     Ok(None)
@@ -92,20 +95,32 @@ fn bar_by_spawn(
     future: u32,
     effects: &Summary,
     future_place: Place,
+    ways: bool,
 ) -> Result<Option<SpawnBar>, Memory>
     requires facts { IsFlowOf points.now body.now }
     requires here { point < body.now.points }
     requires there { future < body.now.futures }
     requires followed { IsTrue (is_among points.now.first future) }
-    ensures found { IfOk result (λ found. IfSome found (λ bar.
-        MayBeOut body.now point future × IsPair needs.now effects.now future_place bar)) }
+    ensures found { IfOk result (λ found. IfSome found
+        (IsFutureBar ways body.now point needs.now future effects.now future_place)) }
     ensures none { IfOk result (λ found. IfNone found (AreFreeOf body.now point needs.now future effects.now)) }
 {
-    let _ = body;
     if !points.may(point, future) {
         return Ok(None);
     }
-    first_pair(alloc, needs, effects, future_place)
+    let pair = first_pair(alloc, needs, effects)?;
+    match pair {
+        None => Ok(None),
+        Some(Pair { need, other }) => {
+            let way = way_if(ways, body, point, future, true);
+            Ok(Some(SpawnBar {
+                need,
+                other,
+                future_place,
+                way,
+            }))
+        }
+    }
 }
 
 /// Finds new facts of the body, if this is a spawn whose future these do not follow.
@@ -139,13 +154,14 @@ fn bar_by(
     point: u32,
     needs: &[Effect],
     act: &Act,
+    ways: bool,
 ) -> Result<Option<SpawnBar>, Memory>
     requires facts { IsFlowOf points.now task.now.body }
     requires fits { DeclFits p.now task.now }
     requires here { point < task.now.body.points }
     requires done { Does p.now task.now act.now.point act.now.kind }
     requires followed { IsFollowed points.now.first act.now.kind }
-    ensures found { IfOk result (λ found. IfSome found (IsSpawnBar p.now task.now point needs.now)) }
+    ensures found { IfOk result (λ found. IfSome found (IsSpawnBar p.now ways task.now point needs.now)) }
     ensures none { IfOk result (λ found. IfNone found (BarsNone task.now point needs.now act.now.kind)) }
 {
     let _ = p;
@@ -165,6 +181,7 @@ fn bar_by(
             *future,
             effects,
             *future_place,
+            ways,
         ),
         ActKind::Make { spawned: false, .. } => Ok(None),
         ActKind::Touch { .. } => Ok(None),
@@ -173,7 +190,8 @@ fn bar_by(
     }
 }
 
-/// How one of these acts of the task bars one of the needed effects at the point, if one does. Their futures are followed.
+/// How one of these acts of the task bars one of the needed effects at the point, if one does, without a way. Their futures
+/// are followed.
 pub fn bar_in_group(
     alloc: Global,
     p: &Prog,
@@ -188,11 +206,11 @@ pub fn bar_in_group(
     requires here { point < task.now.body.points }
     requires done { All (IsDone p.now task.now) makes.now }
     requires followed { All (λ act. IsFollowed points.now.first act.kind) makes.now }
-    ensures found { IfOk result (λ found. IfSome found (IsSpawnBar p.now task.now point needs.now)) }
+    ensures found { IfOk result (λ found. IfSome found (IsSpawnBar p.now false task.now point needs.now)) }
     ensures none { IfOk result (λ found. IfNone found (All (IsNoBar task.now point needs.now) makes.now)) }
 {
     for act in makes {
-        let found = bar_by(alloc, p, task, points, point, needs, act)?;
+        let found = bar_by(alloc, p, task, points, point, needs, act, false)?;
         if let Some(bar) = found {
             return Ok(Some(bar));
         }
@@ -200,8 +218,8 @@ pub fn bar_in_group(
     Ok(None)
 }
 
-/// How one of the task's acts bars one of the needed effects at the point, if one does. The facts of 128 futures are found
-/// at once.
+/// How one of the task's acts bars one of the needed effects at the point, if one does, with a way. The facts of 128 futures
+/// are found at once.
 pub fn bar_among(
     alloc: Global,
     p: &Prog,
@@ -213,13 +231,13 @@ pub fn bar_among(
     requires fits { DeclFits p.now task.now }
     requires here { point < task.now.body.points }
     requires all { acts.now ≡ acts_in_all p.now task.now.body.block }
-    ensures found { IfOk result (λ found. IfSome found (IsSpawnBar p.now task.now point needs.now)) }
+    ensures found { IfOk result (λ found. IfSome found (IsSpawnBar p.now true task.now point needs.now)) }
     ensures none { IfOk result (λ found. IfNone found (All (IsNoBar task.now point needs.now) acts.now)) }
 {
     let mut points = flow(alloc, &task.body, 0)?;
     for act in acts {
         follow_spawn(alloc, &task.body, &mut points, &act.kind)?;
-        let found = bar_by(alloc, p, task, &points, point, needs, act)?;
+        let found = bar_by(alloc, p, task, &points, point, needs, act, true)?;
         if let Some(bar) = found {
             return Ok(Some(bar));
         }

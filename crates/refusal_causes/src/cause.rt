@@ -1,5 +1,6 @@
 //! The cause of a failure.
 
+use control_ways::Way;
 use effect_sets::{Effect, Summary};
 use twe_base::Place;
 
@@ -23,6 +24,8 @@ pub enum RuleCause {
         other: Effect,
         /// The place of the future's name, where the task is spawned.
         future_place: Place,
+        /// A way on which the future is out, if ways are wanted.
+        way: Option<Way>,
         /// The place of the name of the task that needs the effect.
         decl_place: Place,
     },
@@ -30,9 +33,14 @@ pub enum RuleCause {
     NotOut {
         /// The place of the future's name, where its task is made, if there is one.
         future_place: Option<Place>,
+        /// A way on which the future is not out, if ways are wanted.
+        way: Option<Way>,
     },
     /// On some control path to a spawn its future is out already.
-    OutAgain,
+    OutAgain {
+        /// A way on which the future is out, if ways are wanted.
+        way: Option<Way>,
+    },
     /// A deterministic task does something whose order is open.
     OrderOpen {
         /// Whether it makes a task by `executeLater`, and does not wait for one by `getValue`.

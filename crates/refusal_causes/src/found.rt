@@ -1,5 +1,5 @@
 //! The failures that were found so far, in the order of the text.
-ghost use Rattle.std.specs.Prelude.{◌≡◌, IfOk, OnOk, is_some};
+ghost use Rattle.std.specs.Prelude.{◌≡◌, false, IfOk, OnOk, is_some};
 ghost use Rattle.std.specs.BTreeMap.{IsOrdered, values};
 ghost use Rattle.effect_check.specs.FailsEffect.{FailsEffect};
 ghost use Rattle.refusal_causes.specs.Causes.{IsCause};
@@ -75,7 +75,7 @@ impl Found {
         cause: RuleCause,
     ) -> Result<(), Memory>
         requires fails { FailsEffect p.now rule place }
-        requires caused { IsCause p.now rule place cause }
+        requires caused { IsCause p.now false rule place cause }
         ensures grows { OnOk result (Grows p.now self.old self.new) }
         ensures listed { OnOk result (¬ IsUnlisted self.new rule place) }
     {

@@ -1,5 +1,5 @@
 //! What a task fails since one of 128 futures may be out, or is not surely out.
-ghost use Rattle.std.specs.Prelude.{◌≡◌, ◌++◌, Contains, IfNone, IfOk, IfSome, OnOk, option_to_list};
+ghost use Rattle.std.specs.Prelude.{◌≡◌, ◌++◌, false, Contains, IfNone, IfOk, IfSome, OnOk, option_to_list};
 ghost use Rattle.std.specs.List.{All};
 ghost use Rattle.twe_base.specs.declared.place.Place.{Place as At};
 ghost use Rattle.twe_program.specs.WellFormed.{DeclFits};
@@ -95,7 +95,7 @@ fn bar_for(
     requires group { IsGroup p.now task.now points.now makes.now }
     requires fits { DeclFits p.now task.now }
     requires done { Does p.now task.now act.now.point act.now.kind }
-    ensures found { IfOk result (λ found. IfSome found (IsSpawnBar p.now task.now act.now.point (needs_of act.now.kind))) }
+    ensures found { IfOk result (λ found. IfSome found (IsSpawnBar p.now false task.now act.now.point (needs_of act.now.kind))) }
     ensures none { IfOk result (λ found. IfNone found
         (All (IsNoBar task.now act.now.point (needs_of act.now.kind)) makes.now)) }
 {
@@ -139,6 +139,7 @@ fn note_barred(
                         need,
                         other,
                         future_place,
+                        way,
                     },
                 ) => {
                     let decl_place = task.place;
@@ -146,6 +147,7 @@ fn note_barred(
                         need,
                         other,
                         future_place,
+                        way,
                         decl_place,
                     };
                     found.note(p, rule, place, cause)
@@ -185,7 +187,10 @@ fn note_join(
                 return Ok(());
             }
             let future_place = place_of_making(p, task, makes, *future);
-            let cause = RuleCause::NotOut { future_place };
+            let cause = RuleCause::NotOut {
+                future_place,
+                way: None,
+            };
             note_of_task(found, p, task, ERule::E4, *place, cause)
         }
         ActKind::Wait { join: false, .. } => Ok(()),
@@ -230,7 +235,7 @@ fn note_spawn(
                 task,
                 ERule::E5,
                 *future_place,
-                RuleCause::OutAgain,
+                RuleCause::OutAgain { way: None },
             )
         }
         ActKind::Make { spawned: false, .. } => Ok(()),

@@ -14,6 +14,7 @@ mod needing;
 mod next_tokens;
 mod ordering;
 mod searching;
+mod showing;
 
 pub use cause::RuleCause;
 pub use explained::{Explained, explain};

@@ -75,7 +75,8 @@ fn note_methods(found: &mut Found, alloc: Global, p: &Prog) -> Result<(), Memory
     Ok(())
 }
 
-/// Each rule on effects that the program fails, at each place where it does, with a cause, in the order of the text.
+/// Each rule on effects that the program fails, at each place where it does, with a cause, in the order of the text. No cause
+/// has a way: the ways for all of them would take time by the square of the text's length.
 pub fn all_causes(alloc: Global, p: &Prog) -> Result<List<CausedFailure>, Memory>
     ensures { IfOk result (AreAllCauses p.now) }
 {

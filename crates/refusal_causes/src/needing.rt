@@ -1,5 +1,5 @@
 //! Effects that a declaration needs at a place, and why it does not have one of them there.
-ghost use Rattle.std.specs.Prelude.{◌≡◌, ◌<◌, IfNone, IfOk, IfSome, IsTrue, Contains};
+ghost use Rattle.std.specs.Prelude.{◌≡◌, ◌<◌, true, IfNone, IfOk, IfSome, IsTrue, Contains};
 ghost use Rattle.std.specs.List.{All};
 ghost use Rattle.effect_sets.specs.Covers.{covers};
 ghost use Rattle.twe_program.specs.WellFormed.{DeclFits};
@@ -88,7 +88,7 @@ fn cause_of_needs(
     requires fits { DeclFits p.now decl.now }
     requires here { point < decl.now.body.points }
     requires all { acts.now ≡ acts_in_all p.now decl.now.body.block }
-    ensures found { IfOk result (λ found. IfSome found (IsLack p.now decl.now point needs.now)) }
+    ensures found { IfOk result (λ found. IfSome found (IsLack p.now true decl.now point needs.now)) }
     ensures none { IfOk result (λ found. IfNone found (All (CoveredAt p.now decl.now point) needs.now)) }
 {
     let decl_place = decl.place;
@@ -109,11 +109,13 @@ fn cause_of_needs(
                 need,
                 other,
                 future_place,
+                way,
             },
         ) => Ok(Some(RuleCause::Out {
             need,
             other,
             future_place,
+            way,
             decl_place,
         })),
     }
@@ -133,7 +135,7 @@ pub fn cause_of_lack(
     requires done { Does p.now decl.now act.now.point act.now.kind }
     requires fits { DeclFits p.now decl.now }
     requires all { acts.now ≡ acts_in_all p.now decl.now.body.block }
-    ensures found { IfOk result (λ found. IfSome found (IsCauseIn p.now rule place decl.now)) }
+    ensures found { IfOk result (λ found. IfSome found (IsCauseIn p.now true rule place decl.now)) }
     ensures none { IfOk result (λ found. IfNone found (IsKept p.now rule place decl.now act.now)) }
 {
     let _ = rule;

@@ -1,5 +1,5 @@
 //! Joins and spawns of a task at a place, and what a deterministic task must not do: why the rules on these fail there.
-ghost use Rattle.std.specs.Prelude.{◌≡◌, IfNone, IfOk, IfSome};
+ghost use Rattle.std.specs.Prelude.{◌≡◌, Bool, true, IfNone, IfOk, IfSome};
 ghost use Rattle.std.specs.List.{All};
 ghost use Rattle.twe_program.specs.WellFormed.{DeclFits};
 ghost use Rattle.effect_check.specs.Acts.{acts_in_all};
@@ -10,6 +10,7 @@ ghost use Rattle.refusal_causes.specs.inner.Keeping.{IsDone, IsMaking, JoinsSure
 
 use crate::cause::RuleCause;
 use crate::needing::is_at;
+use crate::showing::way_if;
 use cover_flow::flow;
 use effect_check::{Act, ActKind};
 use std::alloc::Global;
@@ -66,7 +67,7 @@ pub fn cause_of_join(
     requires done { Does p.now task.now act.now.point act.now.kind }
     requires fits { DeclFits p.now task.now }
     requires all { acts.now ≡ acts_in_all p.now task.now.body.block }
-    ensures found { IfOk result (λ found. IfSome found (IsCauseIn p.now E4 place task.now)) }
+    ensures found { IfOk result (λ found. IfSome found (IsCauseIn p.now true E4 place task.now)) }
     ensures none { IfOk result (λ found. IfNone found (JoinsSurely task.now place act.now.point act.now.kind)) }
 {
     match &act.kind {
@@ -83,7 +84,8 @@ pub fn cause_of_join(
                 return Ok(None);
             }
             let future_place = place_of_making(p, task, acts, *future);
-            Ok(Some(RuleCause::NotOut { future_place }))
+            let way = way_if(true, &task.body, act.point, *future, false);
+            Ok(Some(RuleCause::NotOut { future_place, way }))
         }
         ActKind::Wait { join: false, .. } => Ok(None),
         ActKind::Touch { .. } => Ok(None),
@@ -102,7 +104,7 @@ pub fn cause_of_spawn(
 ) -> Result<Option<RuleCause>, Memory>
     requires done { Does p.now task.now act.now.point act.now.kind }
     requires fits { DeclFits p.now task.now }
-    ensures found { IfOk result (λ found. IfSome found (IsCauseIn p.now E5 place task.now)) }
+    ensures found { IfOk result (λ found. IfSome found (IsCauseIn p.now true E5 place task.now)) }
     ensures none { IfOk result (λ found. IfNone found (SpawnsAnew task.now place act.now.point act.now.kind)) }
 {
     let _ = p;
@@ -118,7 +120,8 @@ pub fn cause_of_spawn(
             }
             let points = flow(alloc, &task.body, *future)?;
             if points.may(act.point, *future) {
-                Ok(Some(RuleCause::OutAgain))
+                let way = way_if(true, &task.body, act.point, *future, true);
+                Ok(Some(RuleCause::OutAgain { way }))
             } else {
                 Ok(None)
             }
@@ -170,7 +173,7 @@ fn spawns_other(place: Place, kind: &ActKind) -> bool
 /// Why this fails rule E6, if the task is deterministic, and this is an `executeLater` or a `getValue` at the place.
 pub fn cause_of_order(p: &Prog, task: &Decl, place: Place, act: &Act) -> Option<RuleCause>
     requires { Does p.now task.now act.now.point act.now.kind }
-    ensures found { IfSome result (IsCauseIn p.now E6 place task.now) }
+    ensures found { (ways : Bool) → IfSome result (IsCauseIn p.now ways E6 place task.now) }
     ensures none { IfNone result (KeepsOrder task.now place act.now.kind) }
 {
     let _ = p;
@@ -196,7 +199,7 @@ pub fn cause_of_order(p: &Prog, task: &Decl, place: Place, act: &Act) -> Option<
 /// Why this fails rule E7, if the task is deterministic, and this is a spawn at the place of a task that was not declared so.
 pub fn cause_of_child(p: &Prog, task: &Decl, place: Place, act: &Act) -> Option<RuleCause>
     requires { Does p.now task.now act.now.point act.now.kind }
-    ensures found { IfSome result (IsCauseIn p.now E7 place task.now) }
+    ensures found { (ways : Bool) → IfSome result (IsCauseIn p.now ways E7 place task.now) }
     ensures none { IfNone result (SpawnsAlike task.now place act.now.kind) }
 {
     let _ = p;

@@ -1,5 +1,5 @@
 //! The search for the cause of a failure: through the declarations that the rule is for, and all that their bodies do.
-ghost use Rattle.std.specs.Prelude.{◌≡◌, IfNone, IfOk, IfSome};
+ghost use Rattle.std.specs.Prelude.{◌≡◌, true, IfNone, IfOk, IfSome};
 ghost use Rattle.std.specs.List.{All};
 ghost use Rattle.twe_program.specs.WellFormed.{DeclFits};
 ghost use Rattle.effect_check.specs.Acts.{acts_in_all};
@@ -30,7 +30,7 @@ fn cause_of_act(
     requires done { Does p.now decl.now act.now.point act.now.kind }
     requires fits { DeclFits p.now decl.now }
     requires all { acts.now ≡ acts_in_all p.now decl.now.body.block }
-    ensures found { IfOk result (λ found. IfSome found (IsCauseIn p.now rule place decl.now)) }
+    ensures found { IfOk result (λ found. IfSome found (IsCauseIn p.now true rule place decl.now)) }
     ensures none { IfOk result (λ found. IfNone found (IsKept p.now rule place decl.now act.now)) }
 {
     match rule {
@@ -54,7 +54,7 @@ fn cause_within(
     place: Place,
 ) -> Result<Option<RuleCause>, Memory>
     requires { DeclFits p.now decl.now }
-    ensures found { IfOk result (λ found. IfSome found (IsCauseIn p.now rule place decl.now)) }
+    ensures found { IfOk result (λ found. IfSome found (IsCauseIn p.now true rule place decl.now)) }
     ensures none { IfOk result (λ found. IfNone found (KeepsThere p.now rule place decl.now)) }
 {
     let done = acts_of_body(alloc, p, &decl.body.block)?;
@@ -77,7 +77,7 @@ fn cause_in_some(
     place: Place,
 ) -> Result<Option<RuleCause>, Memory>
     requires { All (DeclFits p.now) decls.now }
-    ensures found { IfOk result (λ found. IfSome found (IsCauseOfSome p.now rule place decls.now)) }
+    ensures found { IfOk result (λ found. IfSome found (IsCauseOfSome p.now true rule place decls.now)) }
     ensures none { IfOk result (λ found. IfNone found (All (KeepsThere p.now rule place) decls.now)) }
 {
     for decl in decls {
@@ -116,10 +116,10 @@ fn decls_for(p: &Prog, rule: ERule) -> &[Decl]
     }
 }
 
-/// Why the program fails the rule at the place, where it does. There is always a cause.
+/// Why the program fails the rule at the place, where it does, with a way if that speaks of a future. There is always a cause.
 pub fn cause_at(alloc: Global, p: &Prog, rule: ERule, place: Place) -> Result<RuleCause, Memory>
     requires { FailsEffect p.now rule place }
-    ensures { IfOk result (IsCause p.now rule place) }
+    ensures { IfOk result (IsCause p.now true rule place) }
 {
     let _main = p.main;
     let decls = decls_for(p, rule);

@@ -1,9 +1,10 @@
 -- What is said of a refusal, before it is laid out.
-use Rattle.std.specs.Prelude.{ℕ, Bool, ◌||◌, List, [], ◌∷◌, ◌++◌, codes, if◌then◌else◌}
+use Rattle.std.specs.Prelude.{ℕ, Bool, ◌||◌, List, [], ◌∷◌, ◌++◌, Option, codes, if◌then◌else◌}
 use Rattle.twe_base.specs.declared.place.Place.{Place}
 use Rattle.effect_sets.specs.declared.effects.Effect.{Effect}
 use Rattle.twe_ast.specs.declared.name.Name as written
 use Rattle.text_meaning.specs.EffectTexts.{effect_text, effects_text}
+use Rattle.control_ways.specs.declared.way.Way.{Way}
 use Rattle.twe_frontend.specs.declared.refusal.Refusal.{Refusal}
 use Rattle.refusal_causes.specs.declared.cause.RuleCause.{RuleCause}
 use Rattle.refusal_causes.specs.declared.cause.RuleCause.TheVariants.{Undeclared, Out, NotOut, OutAgain, OrderOpen, NotDeterministic}
@@ -12,6 +13,7 @@ use Rattle.refusal_notes.specs.Effects.{has_any_index}
 use Rattle.name_notes.specs.Sentences.{asked, wrong}
 use Rattle.place_notes.specs.Notes.{note_at}
 use Rattle.refusal_notes.specs.Ruled.{child_explanation, join_explanation, order_explanation, spawn_explanation}
+use Rattle.refusal_notes.specs.Ways.{way_remarks}
 
 -- what every failure of a rule has: the sentences of the rule, and the place
 abbrev pub explanation_of : Refusal → Explanation
@@ -45,12 +47,12 @@ undeclared_explanation refusal decl_place declares needs any_index = record {
 }
 
 -- an effect is needed that a spawned task may still have
-abbrev pub out_explanation : Refusal → Place → List ℕ → List ℕ → Bool → Explanation
-out_explanation refusal future_place has needs any_index = record {
+abbrev pub out_explanation : Refusal → Place → Option Way → List ℕ → List ℕ → Bool → Explanation
+out_explanation refusal future_place way has needs any_index = record {
   headline = codes "an effect is needed here that may still be out with a spawned task";
   notes = note_at future_place has ∷ note_at refusal.place needs ∷ [];
   remarks = codes "on some way to here that task is spawned and not joined, and one of both effects writes"
-      ∷ index_remarks any_index;
+      ∷ (way_remarks way ++ index_remarks any_index);
 }
 
 -- what is said of a refusal with its cause
@@ -58,19 +60,19 @@ abbrev pub explanation_by : Refusal → RuleCause → List (List ℕ) → List w
 explanation_by refusal (Undeclared need declared decl_place) regions variables =
     undeclared_explanation refusal decl_place (declares_text regions variables declared.effects)
     (with_effect (codes "needs `") regions variables need) (has_any_index need.path)
-explanation_by refusal (Out need other future_place decl_place) regions variables =
-    out_explanation refusal future_place (with_effect (codes "is spawned with `") regions variables other)
+explanation_by refusal (Out need other future_place way decl_place) regions variables =
+    out_explanation refusal future_place way (with_effect (codes "is spawned with `") regions variables other)
     (with_effect (codes "needs `") regions variables need) (has_any_index need.path || has_any_index other.path)
-explanation_by refusal (NotOut future_place) regions variables = join_explanation refusal future_place
-explanation_by refusal OutAgain regions variables = spawn_explanation refusal
+explanation_by refusal (NotOut future_place way) regions variables = join_explanation refusal future_place way
+explanation_by refusal (OutAgain way) regions variables = spawn_explanation refusal way
 explanation_by refusal (OrderOpen makes decl_place) regions variables = order_explanation refusal makes decl_place
 explanation_by refusal (NotDeterministic decl_place) regions variables = child_explanation refusal decl_place
 
 -- the place of the name of the declaration that a cause speaks of, if it speaks of one
 abbrev pub place_of_cause : RuleCause → Place
 place_of_cause (Undeclared need declared decl_place) = decl_place
-place_of_cause (Out need other future_place decl_place) = decl_place
-place_of_cause (NotOut future_place) = record { line = 0; col = 0 }
-place_of_cause OutAgain = record { line = 0; col = 0 }
+place_of_cause (Out need other future_place way decl_place) = decl_place
+place_of_cause (NotOut future_place way) = record { line = 0; col = 0 }
+place_of_cause (OutAgain way) = record { line = 0; col = 0 }
 place_of_cause (OrderOpen makes decl_place) = decl_place
 place_of_cause (NotDeterministic decl_place) = decl_place

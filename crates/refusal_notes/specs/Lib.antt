@@ -5,6 +5,7 @@ pub mod Tokens
 pub mod Edits
 pub mod Early
 pub mod Unclosed
+pub mod Ways
 pub mod LaterMends
 pub mod Mends
 pub mod Answers

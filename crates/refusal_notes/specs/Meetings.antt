@@ -72,10 +72,10 @@ pub data MeetingDue (regions : List (List ℕ)) (cells : List CellDecl) (shared 
 -- after these remarks comes what is said of where the effects of a cause meet, if it has two
 abbrev pub IsMeetingTold : Program → RuleCause → List (List ℕ) → List (List ℕ) → Type 0
 IsMeetingTold p (Undeclared need declared decl_place) old new = new ≡ old
-IsMeetingTold p (Out need other future_place decl_place) old new =
+IsMeetingTold p (Out need other future_place way decl_place) old new =
     (remark : List ℕ) × (new ≡ old ++ remark ∷ [])
     × MeetingDue p.regions p.cells (params_at p.tasks decl_place) need other remark
-IsMeetingTold p (NotOut future_place) old new = new ≡ old
-IsMeetingTold p OutAgain old new = new ≡ old
+IsMeetingTold p (NotOut future_place way) old new = new ≡ old
+IsMeetingTold p (OutAgain way) old new = new ≡ old
 IsMeetingTold p (OrderOpen makes decl_place) old new = new ≡ old
 IsMeetingTold p (NotDeterministic decl_place) old new = new ≡ old

@@ -84,10 +84,10 @@ abbrev pub mends_for : List ℕ → Place → RuleCause → List (List ℕ) → 
 mends_for text place (Undeclared need declared decl_place) regions variables =
     declared_mend declared.effects text (effect_text regions variables need) (word_at text decl_place) decl_place
     ∷ later_mends text place
-mends_for text place (Out need other future_place decl_place) regions variables =
+mends_for text place (Out need other future_place way decl_place) regions variables =
     out_mends text (word_at text future_place) place ++ later_mends text place
-mends_for text place (NotOut future_place) regions variables = []
-mends_for text place OutAgain regions variables = later_mend text place ∷ []
+mends_for text place (NotOut future_place way) regions variables = []
+mends_for text place (OutAgain way) regions variables = later_mend text place ∷ []
 mends_for text place (OrderOpen makes decl_place) regions variables = []
 mends_for text place (NotDeterministic decl_place) regions variables = []
 

@@ -1,10 +1,13 @@
 //! What is said of a refusal, before it is laid out.
 ghost use Rattle.std.specs.Prelude.{◌≡◌, ◌∷◌, [], IfOk, OnOk, ◌++◌};
 ghost use Rattle.refusal_notes.specs.Explanation.{declares_text, explanation_by, explanation_of, index_remarks, out_explanation, place_of_cause, undeclared_explanation, with_effect};
+ghost use Rattle.refusal_notes.specs.Ways.{way_remarks};
 ghost use Rattle.place_notes.specs.Notes.{note_at};
 
 use crate::effects::has_any_index;
 use crate::ruled::{child_explanation, join_explanation, order_explanation, spawn_explanation};
+use crate::ways::tell_way;
+use control_ways::Way;
 use effect_sets::Effect;
 use name_notes::{asked, wrong};
 use place_notes::{Explanation, Note};
@@ -87,12 +90,18 @@ fn two_notes(
     Ok(notes)
 }
 
-/// This remark, and then what `[?]` stands for, if it stands in an effect that is shown.
-fn remarks_with(alloc: Global, remark: &[u8], any_index: bool) -> Result<List<Bytes>, Memory>
-    ensures { IfOk result (λ remarks. remarks ≡ remark.now ∷ index_remarks any_index) }
+/// This remark, one on the way if there is one, and then what `[?]` stands for, if it stands in an effect that is shown.
+fn remarks_with(
+    alloc: Global,
+    remark: &[u8],
+    way: &Option<Way>,
+    any_index: bool,
+) -> Result<List<Bytes>, Memory>
+    ensures { IfOk result (λ remarks. remarks ≡ remark.now ∷ (way_remarks way.now ++ index_remarks any_index)) }
 {
     let mut remarks = List::new(alloc);
     remarks.push(Bytes::from_slice(alloc, remark)?)?;
+    tell_way(&mut remarks, alloc, way)?;
     if any_index {
         let index =
             b"[?] is any index: only a number, a parameter and a final int local count as themselves";
@@ -115,7 +124,7 @@ fn undeclared_explanation(
     Ok(Explanation {
         headline: Bytes::from_slice(alloc, b"an effect is needed here that is not declared")?,
         notes: two_notes(alloc, decl_place, declares, refusal.place, needs)?,
-        remarks: remarks_with(alloc, asked(refusal.rule), any_index)?,
+        remarks: remarks_with(alloc, asked(refusal.rule), &None, any_index)?,
     })
 }
 
@@ -124,11 +133,12 @@ fn out_explanation(
     alloc: Global,
     refusal: Refusal,
     future_place: Place,
+    way: &Option<Way>,
     has: Bytes,
     needs: Bytes,
     any_index: bool,
 ) -> Result<Explanation, Memory>
-    ensures { IfOk result (λ explanation. explanation ≡ out_explanation refusal future_place has needs any_index) }
+    ensures { IfOk result (λ explanation. explanation ≡ out_explanation refusal future_place way.now has needs any_index) }
 {
     let headline = b"an effect is needed here that may still be out with a spawned task";
     let remark =
@@ -136,7 +146,7 @@ fn out_explanation(
     Ok(Explanation {
         headline: Bytes::from_slice(alloc, headline)?,
         notes: two_notes(alloc, future_place, has, refusal.place, needs)?,
-        remarks: remarks_with(alloc, remark, any_index)?,
+        remarks: remarks_with(alloc, remark, way, any_index)?,
     })
 }
 
@@ -165,15 +175,18 @@ pub(crate) fn explanation_by(
             need,
             other,
             future_place,
+            way,
             ..
         } => {
             let has = with_effect(alloc, b"is spawned with `", regions, variables, other)?;
             let needs = with_effect(alloc, b"needs `", regions, variables, need)?;
             let any_index = has_any_index(&need.path) || has_any_index(&other.path);
-            out_explanation(alloc, refusal, *future_place, has, needs, any_index)
+            out_explanation(alloc, refusal, *future_place, way, has, needs, any_index)
         }
-        RuleCause::NotOut { future_place } => join_explanation(alloc, refusal, *future_place),
-        RuleCause::OutAgain => spawn_explanation(alloc, refusal),
+        RuleCause::NotOut { future_place, way } => {
+            join_explanation(alloc, refusal, *future_place, way)
+        }
+        RuleCause::OutAgain { way } => spawn_explanation(alloc, refusal, way),
         RuleCause::OrderOpen { makes, decl_place } => {
             order_explanation(alloc, refusal, *makes, *decl_place)
         }
@@ -188,7 +201,7 @@ pub fn place_of_cause(cause: &RuleCause) -> Place
     ensures { result ≡ place_of_cause cause.now }
 {
     match cause {
-        RuleCause::NotOut { .. } | RuleCause::OutAgain => Place { line: 0, col: 0 },
+        RuleCause::NotOut { .. } | RuleCause::OutAgain { .. } => Place { line: 0, col: 0 },
         RuleCause::Undeclared { decl_place, .. } | RuleCause::Out { decl_place, .. } => *decl_place,
         RuleCause::OrderOpen { decl_place, .. } | RuleCause::NotDeterministic { decl_place } =>
             *decl_place,

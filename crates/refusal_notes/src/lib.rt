@@ -13,6 +13,7 @@ mod mends;
 mod ruled;
 mod tokens;
 mod unclosed;
+mod ways;
 
 pub use all_failures::explain_as;
 pub use answering::explain_text;

@@ -210,7 +210,7 @@ pub(crate) fn tell_meeting(
         }
         RuleCause::Undeclared { .. } => Ok(()),
         RuleCause::NotOut { .. } => Ok(()),
-        RuleCause::OutAgain => Ok(()),
+        RuleCause::OutAgain { .. } => Ok(()),
         RuleCause::OrderOpen { .. } => Ok(()),
         RuleCause::NotDeterministic { .. } => Ok(()),
     }

@@ -288,7 +288,7 @@ pub(crate) fn mends_for(
             push_later_if(&mut mends, alloc, text, place)?;
             Ok(mends)
         }
-        RuleCause::OutAgain => {
+        RuleCause::OutAgain { .. } => {
             let mut mends = Mends::new(alloc);
             push_later(&mut mends, alloc, text, place)?;
             Ok(mends)

@@ -3,6 +3,8 @@ ghost use Rattle.std.specs.Prelude.{◌≡◌, ◌∷◌, [], IfOk};
 ghost use Rattle.place_notes.specs.Notes.{note_at};
 ghost use Rattle.refusal_notes.specs.Ruled.{child_explanation, join_explanation, join_notes, order_caption, order_explanation, ruled_explanation, spawn_explanation, strict_explanation};
 
+use crate::ways::tell_way;
+use control_ways::Way;
 use name_notes::{asked, wrong};
 use place_notes::{Explanation, Note};
 use std::alloc::Global;
@@ -26,18 +28,20 @@ fn one_note(alloc: Global, place: Place, caption: &[u8]) -> Result<List<Note>, M
     Ok(notes)
 }
 
-/// The sentences of the rule, these places, and one remark more.
+/// The sentences of the rule, these places, the way if there is one, and one remark more.
 fn ruled_explanation(
     alloc: Global,
     refusal: Refusal,
     notes: List<Note>,
+    way: &Option<Way>,
     remark: &[u8],
 ) -> Result<Explanation, Memory>
-    ensures { IfOk result (λ explanation. explanation ≡ ruled_explanation refusal notes remark.now) }
+    ensures { IfOk result (λ explanation. explanation ≡ ruled_explanation refusal notes way.now remark.now) }
 {
     let headline = Bytes::from_slice(alloc, wrong(refusal.rule))?;
     let mut remarks = List::new(alloc);
     remarks.push(Bytes::from_slice(alloc, asked(refusal.rule))?)?;
+    tell_way(&mut remarks, alloc, way)?;
     remarks.push(Bytes::from_slice(alloc, remark)?)?;
     Ok(Explanation {
         headline,
@@ -65,21 +69,27 @@ pub(crate) fn join_explanation(
     alloc: Global,
     refusal: Refusal,
     made: Option<Place>,
+    way: &Option<Way>,
 ) -> Result<Explanation, Memory>
-    ensures { IfOk result (λ explanation. explanation ≡ join_explanation refusal made) }
+    ensures { IfOk result (λ explanation. explanation ≡ join_explanation refusal made way.now) }
 {
     let notes = join_notes(alloc, made, refusal.place)?;
     ruled_explanation(
         alloc,
         refusal,
         notes,
+        way,
         b"join it once for each spawn: not again after a branch, or in the next turn of a loop",
     )
 }
 
 /// The future of a spawn is out already on some way to it.
-pub(crate) fn spawn_explanation(alloc: Global, refusal: Refusal) -> Result<Explanation, Memory>
-    ensures { IfOk result (λ explanation. explanation ≡ spawn_explanation refusal) }
+pub(crate) fn spawn_explanation(
+    alloc: Global,
+    refusal: Refusal,
+    way: &Option<Way>,
+) -> Result<Explanation, Memory>
+    ensures { IfOk result (λ explanation. explanation ≡ spawn_explanation refusal way.now) }
 {
     let notes = one_note(
         alloc,
@@ -90,6 +100,7 @@ pub(crate) fn spawn_explanation(alloc: Global, refusal: Refusal) -> Result<Expla
         alloc,
         refusal,
         notes,
+        way,
         b"join it in the same turn, and the tasks run one after another; or use executeLater, and their order is open",
     )
 }
@@ -106,7 +117,7 @@ fn strict_explanation(
 {
     let mut notes = one_note(alloc, decl_place, b"is declared deterministic")?;
     notes.push(note(alloc, refusal.place, caption)?)?;
-    ruled_explanation(alloc, refusal, notes, remark)
+    ruled_explanation(alloc, refusal, notes, &None, remark)
 }
 
 /// What is said of an `executeLater`, or of a `getValue`.

@@ -1,4 +1,4 @@
-use Rattle.std.proofs.Common.{◌≡◌, ◌∙◌, IsTrue, IfSome, List, Option, Contains, sym, subst}
+use Rattle.std.proofs.Common.{◌≡◌, ◌∙◌, false, IsTrue, IfSome, List, Option, Contains, sym, subst}
 use Rattle.effect_sets.specs.declared.effects.Effect.{Effect}
 use Rattle.effect_sets.specs.declared.effects.Summary.{Summary}
 use Rattle.effect_sets.specs.Covers.{covers}
@@ -34,6 +34,6 @@ note-requires-clause-caused c =
     let found : Contains c.as_slice.result.now need × (¬ IsTrue (covers decl.summary need)) =
     subst (λ (o : Option Effect). IfSome o (λ (e : Effect). Contains c.as_slice.result.now e × (¬ IsTrue (covers decl.summary e))))
     c.in-Some-undeclared.is c.in_ok-undeclared-in-Some.ensures.found in
-    subst (λ (s : Summary). IsCause p f.rule f.place (Undeclared need s decl.place)) (sym c.in_ok-declared-in-Some-undeclared.ensures)
+    subst (λ (s : Summary). IsCause p false f.rule f.place (Undeclared need s decl.place)) (sym c.in_ok-declared-in-Some-undeclared.ensures)
     (undeclared_fails p decl act.point need found.1 c.args.of_methods c.requires.inside act.kind c.requires.done f
     (sym c.need_at-need.ensures ∙ c.in-Some.is) (subst (λ (xs : List Effect). Contains xs need) needs found.0)).1

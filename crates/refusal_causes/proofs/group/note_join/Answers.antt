@@ -57,6 +57,7 @@ note_of_task-requires-clause-caused c =
         there = is_there arm.place;
         not_out = λ out. false≢true (sym (sym c.surely.ensures ∙ c.if-surely.false)
             ∙ (c.requires.group.facts.surely point arm.future within.0 within.1 (sym c.follows.ensures ∙ c.if-not-follows.false)).1 out);
+        shown = (refl, tt);
         made = c.place_of_making-future_place.ensures;
       },
     )

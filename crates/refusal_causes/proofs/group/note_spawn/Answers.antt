@@ -54,5 +54,6 @@ note_of_task-requires-clause-caused c =
         there = is_there arm.future_place;
         out = (c.requires.facts.may point arm.future within.0 within.1 (sym c.follows.ensures ∙ c.if-not-follows.false)).0
             (sym c.may.ensures ∙ c.if-not-may.false);
+        shown = (refl, tt);
       },
     )

@@ -1,4 +1,4 @@
-use Rattle.std.proofs.Common.{◌≡◌, ◌∙◌, List, sym, subst}
+use Rattle.std.proofs.Common.{◌≡◌, ◌∙◌, true, List, sym, subst}
 use Rattle.std.specs.List.{All}
 use Rattle.effect_sets.specs.declared.effects.Effect.{Effect}
 use Rattle.effect_check.specs.Covered.{CoveredAt}
@@ -23,9 +23,9 @@ returns-clause-found c =
     let decl = c.args.decl.now in
     let act = c.args.act.now in
     let needs : c.as_slice.result.now ≡ needs_of act.kind = c.as_slice.ensures ∙ c.in_ok-needs.ensures in
-    found_weaker (IsLack p decl act.point c.as_slice.result.now) (IsCauseIn p c.args.rule c.args.place decl)
+    found_weaker (IsLack p true decl act.point c.as_slice.result.now) (IsCauseIn p true c.args.rule c.args.place decl)
     (lack_causes p c.args.rule c.args.place decl act.point act.kind c.as_slice.result.now c.requires.of_needs c.requires.done
-    (sym c.needs_at.ensures ∙ c.if-not-needs_at.false) needs)
+    (sym c.needs_at.ensures ∙ c.if-not-needs_at.false) needs true)
     c.cause_of_needs.result c.cause_of_needs.ensures.found
 
 -- nothing is lacked

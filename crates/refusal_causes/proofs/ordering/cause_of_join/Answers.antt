@@ -8,6 +8,7 @@ use Rattle.effect_check.specs.Acts.{acts_in_all}
 use Rattle.effect_check.specs.Covered.{Does}
 use Rattle.refusal_causes.specs.inner.Keeping.{IsDone, JoinsSurely}
 use Rattle.refusal_causes.proofs.Joins.{joins_surely, not_surely_out, surely_out}
+use Rattle.refusal_causes.proofs.WaysThere.{not_surely_show}
 use Rattle.refusal_causes.proofs.ordering.cause_of_join.Goals as goal
 
 -- the future is surely out
@@ -43,6 +44,7 @@ returns-else-surely-clause-found c =
         there = sym c.is_at.ensures ∙ c.if-not-is_at.false;
         not_out = not_surely_out p task c.requires.fits flow.points flow.ensures.exact arm.future flow.ensures.first point arm.join arm.at does
             (sym c.surely.ensures ∙ c.if-surely.false);
+        shown = c.way_if-way.ensures;
         made = c.place_of_making-future_place.ensures;
       },
     )
@@ -52,3 +54,16 @@ pub place_of_making-future_place-requires : goal.place_of_making-future_place-re
 place_of_making-future_place-requires c =
     subst (λ (xs : List Act). All (IsDone c.args.p.now c.args.task.now) xs) (sym c.requires.all)
     (All-contains_itself (acts_in_all c.args.p.now c.args.task.now.body.block))
+
+-- on some path it is not out
+pub way_if-way-requires : goal.way_if-way-requires
+way_if-way-requires c =
+    let p = c.args.p.now in
+    let task = c.args.task.now in
+    let point = c.args.act.now.point in
+    let arm = c.in-Wait-default-true-default in
+    let flow = c.in_ok-points-in-Wait-default-true-default in
+    let does : Does p task point (Wait arm.future arm.join arm.at) = subst (λ (k : ActKind). Does p task point k) arm.is c.requires.done in
+    not_surely_show task.body point arm.future
+    (not_surely_out p task c.requires.fits flow.points flow.ensures.exact arm.future flow.ensures.first point arm.join arm.at does
+    (sym c.surely.ensures ∙ c.if-surely.false))

@@ -1,0 +1,4 @@
+pub mod Places
+pub mod Trail
+pub mod Ways
+pub mod inner

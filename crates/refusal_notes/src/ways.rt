@@ -1,0 +1,124 @@
+//! What is said of a way.
+ghost use Rattle.std.specs.Prelude.{◌≡◌, ◌++◌, OnOk};
+ghost use Rattle.twe_report.specs.Texts.{place_text};
+ghost use Rattle.refusal_notes.specs.Ways.{dots_text, first_text, four_text, heading_text, last_text, next_text, way_places_text, way_remarks, way_text};
+
+use control_ways::{Begins, Four, KeptPlaces, Way};
+use itoa::Buffer;
+use std::alloc::Global;
+use twe_base::{Bytes, List, Memory, Place};
+
+/// Appends a place, as `6:14`.
+fn push_place(text: &mut Bytes, place: Place) -> Result<(), Memory>
+    ensures { OnOk result (text.new ≡ text.old ++ place_text place) }
+{
+    text.push_all(Buffer::new().format(place.line).as_bytes())?;
+    text.push(b':')?;
+    text.push_all(Buffer::new().format(place.col).as_bytes())
+}
+
+/// Appends the place, if there is one.
+fn push_first(text: &mut Bytes, place: Option<Place>) -> Result<(), Memory>
+    ensures { OnOk result (text.new ≡ text.old ++ first_text place) }
+{
+    match place {
+        None => Ok(()),
+        Some(place) => push_place(text, place),
+    }
+}
+
+/// Appends a comma and the place, if there is one.
+fn push_next(text: &mut Bytes, place: Option<Place>) -> Result<(), Memory>
+    ensures { OnOk result (text.new ≡ text.old ++ next_text place) }
+{
+    match place {
+        None => Ok(()),
+        Some(place) => {
+            text.push_all(b", ")?;
+            push_place(text, place)
+        }
+    }
+}
+
+/// Appends the first four places.
+fn push_four(text: &mut Bytes, places: Four) -> Result<(), Memory>
+    ensures { OnOk result (text.new ≡ text.old ++ four_text places) }
+{
+    push_first(text, places.one)?;
+    push_next(text, places.two)?;
+    push_next(text, places.three)?;
+    push_next(text, places.four)
+}
+
+/// Appends two dots, if there are more than eight places.
+fn push_dots(text: &mut Bytes, count: u8) -> Result<(), Memory>
+    ensures { OnOk result (text.new ≡ text.old ++ dots_text count) }
+{
+    if count > 8 {
+        text.push_all(b", ..")
+    } else {
+        Ok(())
+    }
+}
+
+/// Appends those of the last four places, the last one first, that are none of the first four of this many.
+fn push_last(text: &mut Bytes, count: u8, places: Four) -> Result<(), Memory>
+    ensures { OnOk result (text.new ≡ text.old ++ last_text count places) }
+{
+    push_next(text, if count > 7 { places.four } else { None })?;
+    push_next(text, if count > 6 { places.three } else { None })?;
+    push_next(text, if count > 5 { places.two } else { None })?;
+    push_next(text, if count > 4 { places.one } else { None })
+}
+
+/// Appends all places or, of more than eight, the first four, two dots and the last four.
+fn push_places(text: &mut Bytes, places: &KeptPlaces) -> Result<(), Memory>
+    ensures { OnOk result (text.new ≡ text.old ++ way_places_text places.now) }
+{
+    push_four(text, places.first)?;
+    push_dots(text, places.count)?;
+    push_last(text, places.count, places.last)
+}
+
+/// What stands before this many places of a way that begins so.
+fn heading_text(begins: Begins, count: u8) -> &'static [u8]
+    ensures { result.now ≡ heading_text begins count }
+{
+    match begins {
+        Begins::Spawn => b"a way on which it is still out: ",
+        Begins::Join => b"a way on which it is not out: joined: ",
+        Begins::Start => {
+            if count > 0 {
+                b"a way on which it is not out: never spawned: "
+            } else {
+                b"a way on which it is not out: never spawned"
+            }
+        }
+    }
+}
+
+/// Appends what is said of a way.
+fn push_way(text: &mut Bytes, way: &Way) -> Result<(), Memory>
+    ensures { OnOk result (text.new ≡ text.old ++ way_text way.now) }
+{
+    text.push_all(heading_text(way.begins, way.places.count))?;
+    push_places(text, &way.places)
+}
+
+/// Appends a remark on the way, if there is one.
+pub(crate) fn tell_way(
+    remarks: &mut List<Bytes>,
+    alloc: Global,
+    way: &Option<Way>,
+) -> Result<(), Memory>
+    ensures { OnOk result (remarks.new ≡ remarks.old ++ way_remarks way.now) }
+{
+    match way {
+        None => Ok(()),
+        Some(way) => {
+            let mut text = Bytes::new(alloc);
+            push_way(&mut text, way)?;
+            remarks.push(text)
+        }
+    }
+}
