@@ -1,4 +1,4 @@
-use Rattle.std.proofs.Common.{◌⊎◌, ⊎_elim, sym, ap, ◌∙◌, subst}
+use Rattle.std.proofs.Common.{⊎_elim, sym, ap, ◌∙◌, subst}
 use Rattle.twe_frontend.specs.declared.refusal.RuleName.{RuleName}
 use Rattle.twe_frontend.specs.Reads.{IsTextFailure}
 use Rattle.refusal_causes.specs.Explained.{IsTextCauseOf, is_of_tokens}
