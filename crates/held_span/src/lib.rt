@@ -6,11 +6,13 @@
 #![tactic(auto)]
 
 mod freeing;
+mod hold;
 mod holders;
 mod keys;
 mod laws;
 mod spanning;
 mod ways;
 
+pub use hold::Hold;
 pub use laws::the_held_span_is_between;
 pub use spanning::held_span;
