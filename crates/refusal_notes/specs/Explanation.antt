@@ -13,7 +13,7 @@ use Rattle.refusal_notes.specs.Effects.{has_any_index}
 use Rattle.name_notes.specs.Sentences.{asked, wrong}
 use Rattle.place_notes.specs.Notes.{note_at}
 use Rattle.refusal_notes.specs.Ruled.{child_explanation, join_explanation, order_explanation, spawn_explanation}
-use Rattle.refusal_notes.specs.Ways.{way_remarks}
+use Rattle.refusal_notes.specs.Ways.{out_reason}
 
 -- what every failure of a rule has: the sentences of the rule, and the place
 abbrev pub explanation_of : Refusal → Explanation
@@ -51,8 +51,7 @@ abbrev pub out_explanation : Refusal → Place → Option Way → List ℕ → L
 out_explanation refusal future_place way has needs any_index = record {
   headline = codes "an effect is needed here that may still be out with a spawned task";
   notes = note_at future_place has ∷ note_at refusal.place needs ∷ [];
-  remarks = codes "on some way to here that task is spawned and not joined, and one of both effects writes"
-      ∷ (way_remarks way ++ index_remarks any_index);
+  remarks = out_reason way ∷ index_remarks any_index;
 }
 
 -- what is said of a refusal with its cause

@@ -1,5 +1,5 @@
 -- What is said of brackets that are open at the end of a text.
-use Rattle.std.specs.Prelude.{ℕ, ◌-◌, List, [], ◌∷◌, ◌++◌, codes, drop, length}
+use Rattle.std.specs.Prelude.{◌-◌, List, [], ◌∷◌, ◌++◌, codes, drop, length}
 use Rattle.std.specs.List.{flat_map}
 use Rattle.twe_base.specs.declared.place.Place.{Place}
 use Rattle.twe_frontend.specs.declared.refusal.Refusal.{Refusal}

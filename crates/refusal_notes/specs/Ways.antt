@@ -50,6 +50,11 @@ heading_text Start count =
 abbrev pub way_text : Way → List ℕ
 way_text way = heading_text way.begins way.places.count ++ way_places_text way.places
 
+-- why an effect of a spawned task may be out: the way on which it is, if there is one
+abbrev pub out_reason : Option Way → List ℕ
+out_reason None = codes "on some way to here that task is spawned and not joined, and one of both effects writes"
+out_reason (Some way) = way_text way
+
 -- a remark on the way, if there is one
 abbrev pub way_remarks : Option Way → List (List ℕ)
 way_remarks None = []

@@ -1,12 +1,11 @@
 //! What is said of a refusal, before it is laid out.
 ghost use Rattle.std.specs.Prelude.{◌≡◌, ◌∷◌, [], IfOk, OnOk, ◌++◌};
 ghost use Rattle.refusal_notes.specs.Explanation.{declares_text, explanation_by, explanation_of, index_remarks, out_explanation, place_of_cause, undeclared_explanation, with_effect};
-ghost use Rattle.refusal_notes.specs.Ways.{way_remarks};
 ghost use Rattle.place_notes.specs.Notes.{note_at};
 
 use crate::effects::has_any_index;
 use crate::ruled::{child_explanation, join_explanation, order_explanation, spawn_explanation};
-use crate::ways::tell_way;
+use crate::ways::out_reason;
 use control_ways::Way;
 use effect_sets::Effect;
 use name_notes::{asked, wrong};
@@ -90,18 +89,12 @@ fn two_notes(
     Ok(notes)
 }
 
-/// This remark, one on the way if there is one, and then what `[?]` stands for, if it stands in an effect that is shown.
-fn remarks_with(
-    alloc: Global,
-    remark: &[u8],
-    way: &Option<Way>,
-    any_index: bool,
-) -> Result<List<Bytes>, Memory>
-    ensures { IfOk result (λ remarks. remarks ≡ remark.now ∷ (way_remarks way.now ++ index_remarks any_index)) }
+/// This remark, and then what `[?]` stands for, if it stands in an effect that is shown.
+fn remarks_with(alloc: Global, remark: &[u8], any_index: bool) -> Result<List<Bytes>, Memory>
+    ensures { IfOk result (λ remarks. remarks ≡ remark.now ∷ index_remarks any_index) }
 {
     let mut remarks = List::new(alloc);
     remarks.push(Bytes::from_slice(alloc, remark)?)?;
-    tell_way(&mut remarks, alloc, way)?;
     if any_index {
         let index =
             b"[?] is any index: only a number, a parameter and a final int local count as themselves";
@@ -124,7 +117,7 @@ fn undeclared_explanation(
     Ok(Explanation {
         headline: Bytes::from_slice(alloc, b"an effect is needed here that is not declared")?,
         notes: two_notes(alloc, decl_place, declares, refusal.place, needs)?,
-        remarks: remarks_with(alloc, asked(refusal.rule), &None, any_index)?,
+        remarks: remarks_with(alloc, asked(refusal.rule), any_index)?,
     })
 }
 
@@ -141,12 +134,11 @@ fn out_explanation(
     ensures { IfOk result (λ explanation. explanation ≡ out_explanation refusal future_place way.now has needs any_index) }
 {
     let headline = b"an effect is needed here that may still be out with a spawned task";
-    let remark =
-        b"on some way to here that task is spawned and not joined, and one of both effects writes";
+    let reason = out_reason(alloc, way)?;
     Ok(Explanation {
         headline: Bytes::from_slice(alloc, headline)?,
         notes: two_notes(alloc, future_place, has, refusal.place, needs)?,
-        remarks: remarks_with(alloc, remark, way, any_index)?,
+        remarks: remarks_with(alloc, reason.as_slice(), any_index)?,
     })
 }
 

@@ -1,7 +1,7 @@
 //! What is said of a way.
-ghost use Rattle.std.specs.Prelude.{◌≡◌, ◌++◌, OnOk};
+ghost use Rattle.std.specs.Prelude.{◌≡◌, ◌++◌, IfOk, OnOk};
 ghost use Rattle.twe_report.specs.Texts.{place_text};
-ghost use Rattle.refusal_notes.specs.Ways.{dots_text, first_text, four_text, heading_text, last_text, next_text, way_places_text, way_remarks, way_text};
+ghost use Rattle.refusal_notes.specs.Ways.{dots_text, first_text, four_text, heading_text, last_text, next_text, out_reason, way_places_text, way_remarks, way_text};
 
 use control_ways::{Begins, Four, KeptPlaces, Way};
 use itoa::Buffer;
@@ -97,12 +97,26 @@ fn heading_text(begins: Begins, count: u8) -> &'static [u8]
     }
 }
 
-/// Appends what is said of a way.
-fn push_way(text: &mut Bytes, way: &Way) -> Result<(), Memory>
-    ensures { OnOk result (text.new ≡ text.old ++ way_text way.now) }
+/// What is said of a way.
+fn way_text(alloc: Global, way: &Way) -> Result<Bytes, Memory>
+    ensures { IfOk result (λ text. text ≡ way_text way.now) }
 {
-    text.push_all(heading_text(way.begins, way.places.count))?;
-    push_places(text, &way.places)
+    let mut text = Bytes::from_slice(alloc, heading_text(way.begins, way.places.count))?;
+    push_places(&mut text, &way.places)?;
+    Ok(text)
+}
+
+/// Why an effect of a spawned task may be out: the way on which it is, if there is one.
+pub(crate) fn out_reason(alloc: Global, way: &Option<Way>) -> Result<Bytes, Memory>
+    ensures { IfOk result (λ text. text ≡ out_reason way.now) }
+{
+    match way {
+        None => Bytes::from_slice(
+            alloc,
+            b"on some way to here that task is spawned and not joined, and one of both effects writes",
+        ),
+        Some(way) => way_text(alloc, way),
+    }
 }
 
 /// Appends a remark on the way, if there is one.
@@ -115,10 +129,6 @@ pub(crate) fn tell_way(
 {
     match way {
         None => Ok(()),
-        Some(way) => {
-            let mut text = Bytes::new(alloc);
-            push_way(&mut text, way)?;
-            remarks.push(text)
-        }
+        Some(way) => remarks.push(way_text(alloc, way)?),
     }
 }

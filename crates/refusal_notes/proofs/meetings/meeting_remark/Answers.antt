@@ -1,4 +1,4 @@
-use Rattle.std.proofs.Common.{◌≡◌, ℕ, List, Option, IfNone, IfSome, sym, subst}
+use Rattle.std.proofs.Common.{ℕ, List, Option, IfSome, sym, subst}
 use Rattle.effect_meeting.specs.declared.cells.CellMet.{CellMet}
 use Rattle.effect_meeting.specs.Cells.{IsFirstMet}
 use Rattle.refusal_notes.specs.Meetings.{MeetingDue}

@@ -1,5 +1,5 @@
-use Rattle.std.proofs.Common.{◌≡◌, ◌∙◌, ◌∷◌, [], ◌++◌, List, ℕ, true, false, refl, sym, ap, subst}
-use Rattle.refusal_notes.specs.Mends.{IsTried, TellsAcceptance, mend_remark}
+use Rattle.std.proofs.Common.{◌∙◌, ◌∷◌, [], ◌++◌, List, ℕ, true, false, refl, ap, subst}
+use Rattle.refusal_notes.specs.Mends.{IsTried, TellsAcceptance}
 use Rattle.refusal_notes.proofs.mends.try_mend.Goals as goal
 
 -- the text is accepted after it
