@@ -1,0 +1,5 @@
+mod Most
+mod PairOrder
+mod Ranked
+mod Tallied
+mod Totals

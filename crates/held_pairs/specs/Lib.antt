@@ -1,0 +1,3 @@
+pub mod MostHeld
+pub mod Pairs
+pub mod inner
