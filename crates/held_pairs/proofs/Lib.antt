@@ -1,3 +1,4 @@
+mod Counting
 mod Most
 mod PairOrder
 mod Ranked

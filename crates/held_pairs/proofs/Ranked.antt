@@ -2,7 +2,7 @@
 use Rattle.std.proofs.Common.{append-nil, ◌≡◌, ◌∙◌, ◌⊎◌, inl, inr, ◌+◌, ◌<◌, ◌≤◌, ◌++◌, ◌∷◌, [], ℕ, zero, suc, Bool, true, false, List, length, take, refl, sym, ap, subst, arith}
 use Rattle.std.specs.Prelude.{All, AllPairs, Contains, cond, fold, insert, nat_lt, not}
 use Rattle.std.specs.List.Sorted.{IsPermutation}
-use Rattle.std.proofs.lemmas.Bool.{ltb-true}
+use Rattle.std.proofs.lemmas.Bool.{cases_lt, ltb-true}
 use Rattle.std.proofs.lemmas.Bool.Decides.{nat_tests}
 use Rattle.std.proofs.lemmas.List.Elements.{All-contains, All-cons, All-head, All-nil, All-tail, All-take, All-weaker}
 use Rattle.std.proofs.lemmas.List.Kept.{AllPairs-cons}
@@ -71,9 +71,6 @@ longer_than x y p longer (inr same) =
 
 not_longer : (x p : HeldPair) → nat_lt x.time p.time ≡ false → LowerPair x p → HeldMore x p
 not_longer x p shorter lower = by_order (cases_lt p.time x.time) where
-  cases_lt : (a b : ℕ) → (a < b) ⊎ (b ≤ a)
-  cases_lt a b = grind arith
-
   by_order : (p.time < x.time) ⊎ (x.time ≤ p.time) → HeldMore x p
   by_order (inl less) = inl less
   by_order (inr no_less) = inr (grind (arith, nat_tests), lower)

@@ -5,11 +5,13 @@
 //! above.
 #![tactic(auto)]
 
+mod laws;
 mod meeting;
 mod most_held;
 mod pair;
 mod staging;
 mod tally;
 
+pub use laws::each_hold_counts_for_a_pair;
 pub use most_held::held_pairs;
 pub use pair::{DeclaredEffect, EffectPair, HeldPair};
