@@ -1,0 +1,46 @@
+//! What is asked of an input: the form of the answer, and the declarations of its text, which have the names of parameters.
+ghost use Rattle.std.specs.Prelude.{◌≡◌, IfOk};
+ghost use Rattle.twe_advise.specs.Parameters.{AreDeclarations, params_of};
+
+use crate::words::Form;
+use std::alloc::Global;
+use twe_ast::{Item, Name};
+use twe_base::{List, Memory};
+use twe_frontend::{FrontFail, read_tree};
+
+/// The form in which advice is written, and the declarations of the text.
+#[derive(Debug, Drop)]
+pub(crate) struct Request {
+    /// The form.
+    pub form: Form,
+    /// The declarations, in the order of the text.
+    pub items: List<Item>,
+}
+
+/// The declarations of a text, or none if it breaks a rule of the text.
+pub(crate) fn declarations(alloc: Global, text: &[u8]) -> Result<List<Item>, Memory>
+    ensures { IfOk result (AreDeclarations text.now) }
+{
+    match read_tree(alloc, text) {
+        Ok(tree) => Ok(tree.items),
+        Err(FrontFail::Refused(_)) => Ok(List::new(alloc)),
+        Err(FrontFail::OutOfMemory(memory)) => Err(memory),
+    }
+}
+
+/// The names of the parameters of the task with this number, counted from 0 in the order of the text. If there is no such task,
+/// there are none.
+pub(crate) fn params_of(items: &[Item], task: u32) -> &[Name]
+    ensures { result.now ≡ params_of items.now task }
+{
+    let mut left = task;
+    for item in items {
+        if let Item::Task { decl, .. } = item {
+            if left == 0 {
+                return decl.params.as_slice();
+            }
+            left -= 1;
+        }
+    }
+    &[]
+}
