@@ -37,6 +37,7 @@ use Rattle.held_span.specs.declared.holders.Holders.{Holders}
 use Rattle.held_span.specs.declared.ways.Ways.{Ways}
 use Rattle.held_span.specs.inner.Freeing.{Walks}
 use Rattle.held_span.specs.inner.Holding.{HoldsOne, IsLowestOf}
+use Rattle.held_span.specs.inner.Noting.{low_of}
 use Rattle.held_span.specs.inner.Paths.{IsPath}
 use Rattle.held_span.specs.inner.Spanning.{AreLed, effect_lists}
 use Rattle.held_span.specs.inner.Walking.{IsMakerOf}
@@ -119,11 +120,11 @@ module _ (p : Program) (lim : Bounds) (marks : EffectMarks) (rows : List TaskRow
   module _ (before : List Entry) (ways new : Ways) (led : AreLed before st ways) (wait : (s u : ℕ) → WaitsFor st.links s u → IsMakerOf ways.makers s u) where
     -- the tasks that the walk passes are on the way from the lowest of those that hold the task
     pub walk_ways : (low : Option ℕ) → IsLowestOf (HoldsOne holders (seen_by marks t)) low → (walk : List ℕ) → Walks ways new low t walk → (w : ℕ) → Contains walk w
-        → (s : ℕ) × RowsInterfere rows s t × IsOnWay st.links s t w × (w ≤ t)
+        → RowsInterfere rows (low_of low) t × IsOnWay st.links (low_of low) t w × (w ≤ t)
     walk_ways None lowest walk walks w has = absurd (contains_none w (subst (λ (l : List ℕ). Contains l w) walks.0 has))
     walk_ways (Some s) lowest walk walks w has =
         let way = walk_on_way ways led.are st.links wait (waiter_undone p lim st stands) led.firsts s t (holder_waits s lowest.0) t walk none walks.0 w has in
-        (s, holder_interferes s lowest.0, way, descends_up ways led.are (waits_descend ways led.are st.links wait way.waits))
+        (holder_interferes s lowest.0, way, descends_up ways led.are (waits_descend ways led.are st.links wait way.waits))
 
     module _ (IsEntryBy : ℕ → ℕ → Type 0) (Kept : ℕ → ℕ → Type 0) (n : ℕ) (whole : List ℕ)
         (direct : (w : ℕ) → Contains whole w → (i : ℕ) → IsEntryBy i w → Kept i n)

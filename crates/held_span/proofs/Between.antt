@@ -17,6 +17,7 @@ use Rattle.span_profile.specs.Profiles.{IsProfile}
 use Rattle.span_profile.specs.Strands.{Strand, strands, strands_from, weight_of}
 use Rattle.held_span.specs.Freed.{FollowsFreed, RunEntry, stage_of, stage_weight, stages, stages_from}
 use Rattle.held_span.specs.HeldSpans.{IsHeldSpan}
+use Rattle.held_span.proofs.StrandStages.{leads_still, strand_count, weights_at}
 
 -- a chain weighs no more than all elements
 module _ {X : Type 0} (weight : X → ℕ) (LeadsTo : X → X → Type 0) (xs : List X) where
@@ -53,41 +54,12 @@ module _ {X : Type 0} (weight : X → ℕ) (LeadsTo : X → X → Type 0) (xs : 
   chain_below [] is = omega arith
   chain_below (i ∷ others) is = let fits = chain_fits i others is in let all = rest_less zero i (omega arith) in omega (arith, fits, all)
 
--- what entries did
-strands_are : (p : Program) (lim : Bounds) (st : State) (entries : List Entry) (i : ℕ) (a : Strand) → slice_get (strands_from p lim st entries) i ≡ Some a
-    → (s : RunEntry) × (slice_get (stages_from p lim st entries) i ≡ Some s) × (s.strand ≡ a)
-strands_are p lim st [] i a found = absurd (cc)
-strands_are p lim st (entry ∷ entries) zero a found = (stage_of p st entry, refl, cc)
-strands_are p lim st (entry ∷ entries) (suc i) a found = strands_are p lim (move_result p lim st entry.mv).0 entries i a found
-
-weights_at : (p : Program) (lim : Bounds) (st : State) (entries : List Entry) (i : ℕ) → weight_of_found weight_of (slice_get (strands_from p lim st entries) i) ≡ weight_of_found stage_weight (slice_get (stages_from p lim st entries) i)
-weights_at p lim st [] i = refl
-weights_at p lim st (entry ∷ entries) zero = refl
-weights_at p lim st (entry ∷ entries) (suc i) = weights_at p lim (move_result p lim st entry.mv).0 entries i
-
-as_many : (p : Program) (lim : Bounds) (st : State) (entries : List Entry) → length (strands_from p lim st entries) ≡ length (stages_from p lim st entries)
-as_many p lim st [] = refl
-as_many p lim st (entry ∷ entries) = ap (λ (n : ℕ). suc n) (as_many p lim (move_result p lim st entry.mv).0 entries)
-
 -- a chain stays one if admissions also follow what freed them
 module _ (p : Program) (lim : Bounds) (rows : List TaskRow) (journal : List Entry) where
-  leads_still : (i j : ℕ) → Leads LeadsTo (strands p lim journal) i j → Leads (FollowsFreed rows) (stages p lim journal) i j
-  leads_still i j l =
-      let a = strands_are p lim (start_of p lim) journal i l.first l.at_first in
-      let b = strands_are p lim (start_of p lim) journal j l.second l.at_second in
-      record {
-        before = l.before;
-        first = a.0;
-        second = b.0;
-        at_first = a.1;
-        at_second = b.1;
-        leads = inl (subst (λ (x : Strand). LeadsTo x b.0.strand) (sym a.2) (subst (λ (y : Strand). LeadsTo l.first y) (sym b.2) l.leads));
-      }
-
   chain_still : (chain : List ℕ) → IsChainOf LeadsTo (strands p lim journal) chain → IsChainOf (FollowsFreed rows) (stages p lim journal) chain
   chain_still [] is = tt
-  chain_still (i ∷ []) is = let same = as_many p lim (start_of p lim) journal in omega (arith, is, same)
-  chain_still (i ∷ j ∷ others) is = (leads_still i j is.0, chain_still (j ∷ others) is.1)
+  chain_still (i ∷ []) is = let same = strand_count p lim (start_of p lim) journal in omega (arith, is, same)
+  chain_still (i ∷ j ∷ others) is = (leads_still p lim rows journal i j is.0, chain_still (j ∷ others) is.1)
 
   weighs_still : (chain : List ℕ) → chain_weight weight_of (strands p lim journal) chain ≡ chain_weight stage_weight (stages p lim journal) chain
   weighs_still [] = refl

@@ -54,13 +54,13 @@ module _ (marks : EffectMarks) (st new : State) (old later : Holders) (hold : Ho
   by_parent c None same is = stay same is
   by_parent c (Some q) more entered = grow c more entered
 
-pub held_after : (marks : EffectMarks) (st new : State) (t : ℕ) (old later : Freeing) (before after : EntryKeys) (end : End) → HoldEnabled marks st old.holders
-    → EnabledBy st new t end → IsNotedBy marks new t old later before after end → HoldEnabled marks new later.holders
-held_after marks st new t old later before after ends.Admitted hold by noted = grow marks st new old.holders later.holders hold t by noted.2
-held_after marks st new t old later before after (ends.Made c) hold by noted = by_parent marks st new old.holders later.holders hold c (link_of new.links c).parent by noted.3
-held_after marks st new t old later before after (ends.Waits on) hold by noted =
+pub held_after : (marks : EffectMarks) (st new : State) (t : ℕ) (low : Option ℕ) (old later : Freeing) (before after : EntryKeys) (end : End) → HoldEnabled marks st old.holders
+    → EnabledBy st new t end → IsNotedBy marks new t low old later before after end → HoldEnabled marks new later.holders
+held_after marks st new t low old later before after ends.Admitted hold by noted = grow marks st new old.holders later.holders hold t by noted.2
+held_after marks st new t low old later before after (ends.Made c) hold by noted = by_parent marks st new old.holders later.holders hold c (link_of new.links c).parent by noted.3
+held_after marks st new t low old later before after (ends.Waits on) hold by noted =
     stay marks st new old.holders later.holders hold by (λ i. (noted.2 i).holders)
-held_after marks st new t old later before after (ends.Joins on) hold by noted =
+held_after marks st new t low old later before after (ends.Joins on) hold by noted =
     stay marks st new old.holders later.holders hold by (λ i. (noted.2 i).holders)
-held_after marks st new t old later before after (ends.Done value) hold by noted = shrink marks st new old.holders later.holders hold t by noted.3
-held_after marks st new t old later before after (ends.Fault kind place) hold by noted = shrink marks st new old.holders later.holders hold t by noted.3
+held_after marks st new t low old later before after (ends.Done value) hold by noted = shrink marks st new old.holders later.holders hold t by noted.3
+held_after marks st new t low old later before after (ends.Fault kind place) hold by noted = shrink marks st new old.holders later.holders hold t by noted.3

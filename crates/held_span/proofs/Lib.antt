@@ -5,10 +5,13 @@ pub mod Covered
 pub mod FollowedStates
 pub mod Further
 pub mod Held
+pub mod HeldProfiles
 pub mod HeldStates
+pub mod HeldTimes
 pub mod LedStates
 pub mod MarkKeys
 pub mod Marked
+pub mod NotedEntries
 pub mod NotedKeys
 pub mod Numbered
 pub mod Paths
@@ -19,5 +22,7 @@ pub mod Spans
 pub mod Starts
 pub mod Statuses
 pub mod Steps
+pub mod StrandStages
+pub mod Told
 pub mod Walked
 pub mod WalkedWays

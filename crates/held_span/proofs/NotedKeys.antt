@@ -71,21 +71,21 @@ module _ (tree : List (List Part)) (marks : EffectMarks) (stage : RunEntry) (bef
         refl,
       )
 
-  pub shows_noted : (st : State) (t : ℕ) (old new : Freeing) (end : End) → stage.strand.task ≡ t → stage.strand.done ≡ is_done end → IsNotedBy marks st t old new before after end → IsShown
-  shows_noted st t old new ends.Admitted task done noted = shows_same noted.1 done
-  shows_noted st t old new (ends.Made child) task done noted = shows_same noted.1 done
-  shows_noted st t old new (ends.Waits on) task done noted = shows_same noted.1 done
-  shows_noted st t old new (ends.Joins on) task done noted = shows_same noted.1 done
-  shows_noted st t old new (ends.Done value) task done noted =
+  pub shows_noted : (st : State) (t : ℕ) (low : Option ℕ) (old new : Freeing) (end : End) → stage.strand.task ≡ t → stage.strand.done ≡ is_done end → IsNotedBy marks st t low old new before after end → IsShown
+  shows_noted st t low old new ends.Admitted task done noted = shows_same noted.1 done
+  shows_noted st t low old new (ends.Made child) task done noted = shows_same noted.1 done
+  shows_noted st t low old new (ends.Waits on) task done noted = shows_same noted.1 done
+  shows_noted st t low old new (ends.Joins on) task done noted = shows_same noted.1 done
+  shows_noted st t low old new (ends.Done value) task done noted =
       shows_done (subst (λ (u : ℕ). after.gives ≡ before.gives ++ mark_keys marks (left_by marks u)) (sym task) noted.1) done
-  shows_noted st t old new (ends.Fault kind place) task done noted = shows_same noted.1 done
+  shows_noted st t low old new (ends.Fault kind place) task done noted = shows_same noted.1 done
 
 -- What an entry asks for.
 
 module _ (marks : EffectMarks) (stage : RunEntry) (before after : EntryKeys) (rows : List TaskRow) where
   -- nothing beyond what it did
-  pub asked_same : after.asks ≡ before.asks → (key : Key) → Contains after.asks key → Contains before.asks key ⊎ (AsksMark marks stage key ⊎ AsksWay rows (length marks.lists) stage key)
-  asked_same same key has = inl (subst (λ (l : List Key). Contains l key) same has)
+  pub asked_same : (low : ℕ) → after.asks ≡ before.asks → (key : Key) → Contains after.asks key → Contains before.asks key ⊎ (AsksMark marks stage key ⊎ AsksWay rows (length marks.lists) low stage key)
+  asked_same low same key has = inl (subst (λ (l : List Key). Contains l key) same has)
 
   module _ (walk : List ℕ) (t : ℕ) (task : stage.strand.task ≡ t) (kind : stage.kind ≡ Admit)
       (keys : after.asks ≡ (before.asks ++ mark_keys marks (seen_by marks t)) ++ map (λ w. Task w) walk) where
@@ -100,13 +100,13 @@ module _ (marks : EffectMarks) (stage : RunEntry) (before after : EntryKeys) (ro
         let mark = map_contains (mark_key (length marks.lists)) (seen_by marks t) key has in
         (kind, (mark.0, subst (λ (u : ℕ). Contains (seen_by marks u) mark.0) (sym task) mark.1, sym mark.2))
 
-    pub asked_freed : ((w : ℕ) → Contains walk w → AsksWay rows (length marks.lists) stage (Task w)) → (key : Key) → Contains after.asks key
-        → Contains before.asks key ⊎ (AsksMark marks stage key ⊎ AsksWay rows (length marks.lists) stage key)
-    asked_freed ways key has = elim (Contains-append_cases (before.asks ++ seen) tasks key (subst (λ (l : List Key). Contains l key) keys has)) [
+    pub asked_freed : (low : ℕ) → ((w : ℕ) → Contains walk w → AsksWay rows (length marks.lists) low stage (Task w)) → (key : Key) → Contains after.asks key
+        → Contains before.asks key ⊎ (AsksMark marks stage key ⊎ AsksWay rows (length marks.lists) low stage key)
+    asked_freed low ways key has = elim (Contains-append_cases (before.asks ++ seen) tasks key (subst (λ (l : List Key). Contains l key) keys has)) [
       | inl first ↦ elim (Contains-append_cases before.asks seen key first) [ inl old ↦ inl old | inr mark ↦ inr (inl (seen_mark key mark)) ]
       | inr last ↦
           let w = map_contains (λ w. Task w) walk key last in
-          inr (inr (subst (λ (k : Key). AsksWay rows (length marks.lists) stage k) w.2 (ways w.0 w.1)))
+          inr (inr (subst (λ (k : Key). AsksWay rows (length marks.lists) low stage k) w.2 (ways w.0 w.1)))
     ]
 
     back : (key : Key) → Contains ((before.asks ++ seen) ++ tasks) key → Contains after.asks key

@@ -44,16 +44,14 @@ module _ (marks : EffectMarks) (are : AreNumbered marks) (t : ℕ) where
       (all_of (λ (mark : EffectMark). tasks + effect_of mark < 2 ^ 32) (seen_by marks t) (λ mark has. fits tasks many mark (are.seen t mark has)))
 
 -- what a walk adds after the marks that are seen
-pub freed_back : {T E : Type 0} (marks : EffectMarks) (holders : Holders) (old new : Ways) (t s : ℕ) (before between after : List Key) (result : Result T E)
+pub freed_back : (marks : EffectMarks) (holders : Holders) (old new : Ways) (t s : ℕ) (before between after : List Key)
     → IsLowestOf (HoldsOne holders (seen_by marks t)) (Some s) → between ≡ before ++ mark_keys marks (seen_by marks t)
-    → OnOk result ((tasks : List ℕ) × IsWalk old s t tasks × (after ≡ between ++ map (λ task. Task task) tasks))
-    → OnOk result (new ≡ record { makers = old.makers; firsts = slice_set old.firsts t s })
-    → OnOk result (IsFreed marks holders old new t before after)
-freed_back marks holders old new t s before between after (Ok x) lowest added walked noted = record {
-  low = Some s;
+    → (tasks : List ℕ) × IsWalk old s t tasks × (after ≡ between ++ map (λ task. Task task) tasks)
+    → new ≡ record { makers = old.makers; firsts = slice_set old.firsts t s }
+    → IsFreed marks holders old new t before after (Some s)
+freed_back marks holders old new t s before between after lowest added walked noted = record {
   lowest = lowest;
   walk = walked.0;
   walks = (walked.1, noted);
   keys = walked.2 ∙ ap (λ (l : List Key). l ++ map (λ task. Task task) walked.0) added;
 }
-freed_back marks holders old new t s before between after (Err e) lowest added walked noted = tt

@@ -32,7 +32,7 @@ use Rattle.twe_machine.proofs.tasks.Movers.{mover_there}
 use Rattle.wait_graph.specs.declared.tasks.Link.{Link}
 use Rattle.effect_marks.specs.declared.marks.EffectMarks.{EffectMarks}
 use Rattle.span_profile.proofs.Lists.{zip_length}
-use Rattle.span_profile.specs.Strands.{made_task, strand_by_kind}
+use Rattle.span_profile.specs.Strands.{admission, made_task, strand_by_kind}
 use Rattle.effect_marks.specs.Rivals.{AreNumbersOf}
 use Rattle.held_span.specs.Freed.{RunEntry, stage_of, stages, stages_from}
 use Rattle.held_span.specs.inner.Spanning.{IsBelow, IsPlan, effect_lists}
@@ -54,6 +54,43 @@ module _ (p : Program) (lim : Bounds) where
   pub stages_more : (before : List Entry) (entry : Entry) (st : State) → st ≡ state_after p lim before → stages p lim (before ++ entry ∷ []) ≡ stages p lim before ++ stage_of p st entry ∷ []
   stages_more before entry st same =
       stages_on (start_of p lim) before entry ∙ ap (λ (s : State). stages p lim before ++ stage_of p s entry ∷ []) (sym same)
+
+-- What the strand of an entry says of its move.
+module _ (p : Program) (st : State) (task : ℕ) (end : End) where
+  pub strand_task : (kind : Kind) (found : Option TaskRow) → (strand_by_kind p st kind task found end).task ≡ task
+  strand_task Admit found = refl
+  strand_task Run None = refl
+  strand_task Run (Some row) = refl
+
+  -- an admission did nothing
+  pub strand_admits : (kind : Kind) → kind ≡ Admit → (found : Option TaskRow) → strand_by_kind p st kind task found end ≡ admission task
+  strand_admits Admit is found = refl
+  strand_admits Run is found = absurd (cc (is))
+
+  module _ (kind : Kind) (admitted : kind ≡ Admit → end ≡ ends.Admitted) (row : TaskRow) where
+    pub strand_made : (found : Option TaskRow) → found ≡ Some row → (strand_by_kind p st kind task found end).made ≡ made_task end
+    strand_made found is = made kind admitted found is
+      where
+        made : (k : Kind) → (k ≡ Admit → end ≡ ends.Admitted) → (f : Option TaskRow) → f ≡ Some row → (strand_by_kind p st k task f end).made ≡ made_task end
+        made Admit admit f here = sym (ap made_task (admit refl))
+        made Run admit None here = absurd (cc (here))
+        made Run admit (Some other) here = refl
+
+    pub strand_done : (found : Option TaskRow) → found ≡ Some row → (strand_by_kind p st kind task found end).done ≡ is_done end
+    strand_done found is = done kind admitted found is
+      where
+        done : (k : Kind) → (k ≡ Admit → end ≡ ends.Admitted) → (f : Option TaskRow) → f ≡ Some row → (strand_by_kind p st k task f end).done ≡ is_done end
+        done Admit admit f here = sym (ap is_done (admit refl))
+        done Run admit None here = absurd (cc (here))
+        done Run admit (Some other) here = refl
+
+-- an admission ends as one
+pub admits_end : (p : Program) (lim : Bounds) (st : State) (mv : Move) (end : End) → (move_result p lim st mv).1 ≡ end → mv.kind ≡ Admit → end ≡ ends.Admitted
+admits_end p lim st mv end is admit = by_kind mv.kind refl admit
+  where
+    by_kind : (kind : Kind) → mv.kind ≡ kind → kind ≡ Admit → end ≡ ends.Admitted
+    by_kind Admit same k = sym is ∙ ap (λ (k : Kind). (result_by_kind p lim st k mv.task).1) same
+    by_kind Run same k = absurd (cc (k))
 
 -- there is a list of numbers for each task
 pub lists_count : (p : Program) (lim : Bounds) (marks : EffectMarks) (rows : List TaskRow) (journal : List Entry) → IsPlan p lim marks rows journal → length marks.lists ≡ length rows
@@ -117,13 +154,8 @@ module _ (p : Program) (lim : Bounds) (well : IsWellFormed p) (marks : EffectMar
   abbrev pub stage : RunEntry
   stage = stage_of p st entry
 
-  task_by : (kind : Kind) (found : Option TaskRow) → (strand_by_kind p st kind mv.task found end).task ≡ mv.task
-  task_by Admit found = refl
-  task_by Run None = refl
-  task_by Run (Some row) = refl
-
   pub stage_task : stage.strand.task ≡ mv.task
-  stage_task = task_by mv.kind (slice_get st.tasks mv.task)
+  stage_task = strand_task p st mv.task end mv.kind (slice_get st.tasks mv.task)
 
   many : length marks.lists ≡ length rows
   many = lists_count p lim marks rows (before ++ entry ∷ rest) plan
@@ -178,28 +210,19 @@ module _ (p : Program) (lim : Bounds) (well : IsWellFormed p) (marks : EffectMar
   pub alone : LeavesAlone p st after mv end
   alone = subst (LeavesAlone p st after mv) end_is (left_alone p lim well st mv.kind mv.task may stands)
 
-  -- what it has made
-  made_by_kind : (kind : Kind) (found : Option TaskRow) (c : ℕ) → (strand_by_kind p st kind mv.task found end).made ≡ Some c → end ≡ ends.Made c
-  made_by_kind Admit found c is = absurd (cc (is))
-  made_by_kind Run None c is = absurd (cc (is))
-  made_by_kind Run (Some row) c is = made_child end c is
-
-  pub stage_made : (c : ℕ) → stage.strand.made ≡ Some c → end ≡ ends.Made c
-  stage_made c is = made_by_kind mv.kind (slice_get st.tasks mv.task) c is
-
-  -- whether it has ended its task
-  done_by_kind : (kind : Kind) → (kind ≡ Admit → end ≡ ends.Admitted) → (found : Option TaskRow) → (row : TaskRow) → found ≡ Some row → (strand_by_kind p st kind mv.task found end).done ≡ is_done end
-  done_by_kind Admit admitted found row is = sym (ap is_done (admitted refl))
-  done_by_kind Run admitted None row is = absurd (cc (is))
-  done_by_kind Run admitted (Some other) row is = refl
-
-  end_of : (kind : Kind) → mv.kind ≡ kind → kind ≡ Admit → end ≡ ends.Admitted
-  end_of Admit is admit = sym end_is ∙ ap (λ (k : Kind). (result_by_kind p lim st k mv.task).1) is
-  end_of Run is admit = absurd (cc (admit))
-
   -- an admission ends as one
   pub admission_end : mv.kind ≡ Admit → end ≡ ends.Admitted
-  admission_end is = end_of mv.kind refl is
+  admission_end is = admits_end p lim st mv end end_is is
+
+  -- what it has made, and whether it has ended its task
+  pub stage_makes : stage.strand.made ≡ made_task end
+  stage_makes = let row = mover_row st mv.kind mv.task may in strand_made p st mv.task end mv.kind admission_end row.0 (slice_get st.tasks mv.task) row.1
+
+  pub stage_admits : stage.kind ≡ Admit → stage.strand ≡ admission mv.task
+  stage_admits is = strand_admits p st mv.task end mv.kind is (slice_get st.tasks mv.task)
+
+  pub stage_made : (c : ℕ) → stage.strand.made ≡ Some c → end ≡ ends.Made c
+  stage_made c is = made_child end c (sym stage_makes ∙ is)
 
   pub stage_done : stage.strand.done ≡ is_done end
-  stage_done = let row = mover_row st mv.kind mv.task may in done_by_kind mv.kind admission_end (slice_get st.tasks mv.task) row.0 row.1
+  stage_done = let row = mover_row st mv.kind mv.task may in strand_done p st mv.task end mv.kind admission_end row.0 (slice_get st.tasks mv.task) row.1

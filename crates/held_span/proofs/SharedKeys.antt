@@ -1,5 +1,5 @@
 -- A key that a node gives and a later one asks for says that the later entry follows the earlier one.
-use Rattle.std.proofs.Common.{◌≡◌, ◌<◌, ◌↔◌, ◌⊎◌, inl, inr, ℕ, List, length, map, Some, IsTrue, refl, sym, ap, ◌∙◌, subst, arith}
+use Rattle.std.proofs.Common.{◌≡◌, ◌<◌, ◌↔◌, ◌⊎◌, inl, inr, ℕ, Bool, true, false, cond, List, length, map, Some, IsTrue, refl, sym, ap, ◌∙◌, subst, arith}
 use Rattle.std.specs.Prelude.{slice_get}
 use Rattle.std.specs.List.{Contains}
 use Rattle.std.specs.Option.{option_map}
@@ -19,9 +19,10 @@ use Rattle.span_profile.specs.declared.heaviest_chain.key.Key.{Key}
 use Rattle.span_profile.specs.declared.heaviest_chain.key.Key.TheVariants.{Task}
 use Rattle.span_profile.specs.heaviest_chain.Nodes.{Node, SharesKey}
 use Rattle.span_profile.proofs.Keyed.{leads_shared, shared_leads}
-use Rattle.held_span.specs.Freed.{FollowsFreed, Frees, IsBy, RunEntry, by_end, by_wait}
+use Rattle.held_span.specs.Freed.{FreesFrom, IsBy, RunEntry, by_end, by_wait}
 use Rattle.held_span.specs.Ways.{IsOnWay, RowsInterfere}
 use Rattle.held_span.specs.inner.Keys.{mark_key}
+use Rattle.held_span.specs.inner.Noting.{holder_by}
 use Rattle.held_span.specs.inner.Spanning.{GivesMark, ShowsStage, effect_lists}
 use Rattle.held_span.proofs.MarkKeys.{mark_no_task, mark_not_asked, mark_not_given, one_mark}
 
@@ -51,44 +52,58 @@ abbrev pub AsksMark : EffectMarks → RunEntry → Key → Type 0
 AsksMark marks stage key =
     (stage.kind ≡ Admit) × ((mark : EffectMark) × Contains (seen_by marks stage.strand.task) mark × (key ≡ mark_key (length marks.lists) mark))
 
-pub record AsksWay (rows : List TaskRow) (count : ℕ) (stage : RunEntry) (key : Key) : Type 0 where
+pub record AsksWay (rows : List TaskRow) (count low : ℕ) (stage : RunEntry) (key : Key) : Type 0 where
   pub kind : stage.kind ≡ Admit
-  pub s : ℕ
   pub w : ℕ
   pub key_is : key ≡ Task w
   pub below : w < count
-  pub interfere : RowsInterfere rows s stage.strand.task
-  pub way : IsOnWay stage.links s stage.strand.task w
+  pub interfere : RowsInterfere rows low stage.strand.task
+  pub way : IsOnWay stage.links low stage.strand.task w
+
+-- the first entry leads to the second, or frees it from the holder that is known by the lowest one
+abbrev pub LeadsOrFrees : List TaskRow → ℕ → RunEntry → RunEntry → Type 0
+LeadsOrFrees rows low a b = LeadsTo a.strand b.strand ⊎ FreesFrom rows (holder_by a low) a b
+
+-- an entry by a task on the way to the admitted one has done no task
+abbrev pub IsUndone : ℕ → RunEntry → RunEntry → Type 0
+IsUndone low a b = (w : ℕ) → IsOnWay b.links low b.strand.task w → IsBy a.strand w → a.strand.done ≡ false
 
 module _ (rows : List TaskRow) (marks : EffectMarks) (are : AreMarksOf (effect_lists rows) marks) (many : length marks.lists ≡ length rows) (tree : List (List Part))
     (x y : Node) (a b : RunEntry) (first : ShowsStage tree marks x a) (second : ShowsStage tree marks y b) where
   abbrev count : ℕ
   count = length marks.lists
 
-  abbrev Asked : Key → Type 0
-  Asked key = Contains second.base.asks key ⊎ (AsksMark marks b key ⊎ AsksWay rows count b key)
+  module _ (low : ℕ) (undone : IsUndone low a b) where
+    abbrev Asked : Key → Type 0
+    Asked key = Contains second.base.asks key ⊎ (AsksMark marks b key ⊎ AsksWay rows count low b key)
 
-  by_given : (key : Key) → Contains first.base.gives key → Asked key → FollowsFreed rows a b
-  by_given key gives (inl asks) = inl (shared_leads tree first.base second.base a.strand b.strand first.shown second.shown (key, gives, asks))
-  by_given key gives (inr (inl mark)) = absurd (mark_not_given count tree first.base a.strand first.shown first.below mark.1.0 key mark.1.2 gives)
-  by_given key gives (inr (inr way)) =
-      inr (by_wait way.kind way.s way.w way.interfere way.way ((first.shown.gives (Task way.w)).0 (subst (λ (k : Key). Contains first.base.gives k) way.key_is gives)))
+    holder_is : (b : Bool) → a.strand.done ≡ b → holder_by a low ≡ cond b a.strand.task low
+    holder_is b is = ap (λ (b : Bool). cond b a.strand.task low) is
 
-  by_mark : (key : Key) → GivesMark marks a key → Asked key → FollowsFreed rows a b
-  by_mark key gives (inl asks) = absurd (mark_not_asked count tree second.base b.strand second.shown second.below gives.1.0 key gives.1.2 asks)
-  by_mark key gives (inr (inl mark)) =
-      let same : gives.1.0 ≡ mark.1.0 = one_mark count gives.1.0 mark.1.0 (sym gives.1.2 ∙ mark.1.2) in
-      let left : Contains (left_by marks a.strand.task) mark.1.0 = subst (λ (m : EffectMark). Contains (left_by marks a.strand.task) m) same gives.1.1 in
-      let below_a = first.below.task in
-      let below_b = second.below.task in
-      inr (by_end mark.0 gives.0 (shared_interfere rows marks are a.strand.task b.strand.task (omega (arith, below_a, many)) (omega (arith, below_b, many)) (mark.1.0, left, mark.1.1)))
-  by_mark key gives (inr (inr way)) = absurd (mark_no_task count gives.1.0 way.w way.below (sym gives.1.2 ∙ way.key_is))
+    by_given : (key : Key) → Contains first.base.gives key → Asked key → LeadsOrFrees rows low a b
+    by_given key gives (inl asks) = inl (shared_leads tree first.base second.base a.strand b.strand first.shown second.shown (key, gives, asks))
+    by_given key gives (inr (inl mark)) = absurd (mark_not_given count tree first.base a.strand first.shown first.below mark.1.0 key mark.1.2 gives)
+    by_given key gives (inr (inr way)) =
+        let by = (first.shown.gives (Task way.w)).0 (subst (λ (k : Key). Contains first.base.gives k) way.key_is gives) in
+        inr (subst (λ (h : ℕ). FreesFrom rows h a b) (sym (holder_is false (undone way.w way.way by))) (by_wait way.kind way.w way.interfere way.way by))
 
-  pub shared_follows : ((key : Key) → Contains y.asks key → Asked key) → SharesKey x y → FollowsFreed rows a b
-  shared_follows asked shared = elim ((first.gives shared.0).0 shared.1) [
-    | inl gives ↦ by_given shared.0 gives (asked shared.0 shared.2)
-    | inr mark ↦ by_mark shared.0 mark (asked shared.0 shared.2)
-  ]
+    by_mark : (key : Key) → GivesMark marks a key → Asked key → LeadsOrFrees rows low a b
+    by_mark key gives (inl asks) = absurd (mark_not_asked count tree second.base b.strand second.shown second.below gives.1.0 key gives.1.2 asks)
+    by_mark key gives (inr (inl mark)) =
+        let same : gives.1.0 ≡ mark.1.0 = one_mark count gives.1.0 mark.1.0 (sym gives.1.2 ∙ mark.1.2) in
+        let left : Contains (left_by marks a.strand.task) mark.1.0 = subst (λ (m : EffectMark). Contains (left_by marks a.strand.task) m) same gives.1.1 in
+        let below_a = first.below.task in
+        let below_b = second.below.task in
+        let holder = sym (holder_is true gives.0) in
+        inr (by_end mark.0 gives.0 holder (subst (λ (h : ℕ). RowsInterfere rows h b.strand.task) holder
+        (shared_interfere rows marks are a.strand.task b.strand.task (omega (arith, below_a, many)) (omega (arith, below_b, many)) (mark.1.0, left, mark.1.1))))
+    by_mark key gives (inr (inr way)) = absurd (mark_no_task count gives.1.0 way.w way.below (sym gives.1.2 ∙ way.key_is))
+
+    pub shared_told : ((key : Key) → Contains y.asks key → Asked key) → SharesKey x y → LeadsOrFrees rows low a b
+    shared_told asked shared = elim ((first.gives shared.0).0 shared.1) [
+      | inl gives ↦ by_given shared.0 gives (asked shared.0 shared.2)
+      | inr mark ↦ by_mark shared.0 mark (asked shared.0 shared.2)
+    ]
 
   -- and each entry that the later one follows gives a key that this one asks for, or is on the way to its task
   pub leads_share : ((key : Key) → Contains second.base.asks key → Contains y.asks key) → LeadsTo a.strand b.strand → SharesKey x y

@@ -63,7 +63,7 @@ chain_on A B f count (i ∷ []) is = is
 chain_on A B f count (i ∷ j ∷ others) is = (f i j is.0, chain_on A B f count (j ∷ others) is.1)
 
 module _ (tree : List (List Part)) (marks : EffectMarks) where
-  weight_same : (nodes : List Node) (stages : List RunEntry) → AllZip (ShowsStage tree marks) nodes stages → (i : ℕ) → weight_of_found weight_of (slice_get nodes i) ≡ weight_of_found stage_weight (slice_get stages i)
+  pub weight_same : (nodes : List Node) (stages : List RunEntry) → AllZip (ShowsStage tree marks) nodes stages → (i : ℕ) → weight_of_found weight_of (slice_get nodes i) ≡ weight_of_found stage_weight (slice_get stages i)
   weight_same [] [] all i = refl
   weight_same [] (b ∷ stages) all i = absurd all
   weight_same (y ∷ nodes) [] all i = absurd all

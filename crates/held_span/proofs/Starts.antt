@@ -1,5 +1,5 @@
 -- The start of a run.
-use Rattle.std.proofs.Common.{◌≡◌, ◌<◌, ◌≤◌, ◌++◌, ℕ, zero, suc, List, [], ◌∷◌, length, Some, inl, refl, sym, ap, ◌∙◌, subst, arith}
+use Rattle.std.proofs.Common.{◌≡◌, ◌<◌, ◌≤◌, ◌++◌, ℕ, zero, suc, List, [], ◌∷◌, length, None, Some, inl, refl, sym, ap, ◌∙◌, subst, arith}
 use Rattle.std.specs.Prelude.{slice_get}
 use Rattle.seg_journal.specs.declared.journal.Entry.{Entry}
 use Rattle.twe_base.specs.Limits.{Bounds}
@@ -18,8 +18,10 @@ use Rattle.effect_marks.specs.declared.marks.EffectMarks.{EffectMarks}
 use Rattle.span_profile.specs.Recorders.{IsRecorder}
 use Rattle.span_profile.specs.heaviest_chain.Built.{FrontHolds}
 use Rattle.held_span.specs.declared.spanning.Spanning.{Spanning}
+use Rattle.held_span.specs.declared.notes.Notes.{Notes}
 use Rattle.held_span.specs.declared.ways.Ways.{Ways}
 use Rattle.held_span.specs.inner.Holding.{HasRoomFor, Holds}
+use Rattle.held_span.specs.inner.Noting.{AreNoted}
 use Rattle.held_span.specs.inner.Spanning.{AreLed, IsPlan, IsSpanning}
 use Rattle.held_span.specs.inner.Walking.{AreWays}
 
@@ -47,10 +49,26 @@ first_led p lim = record {
       inl (subst (λ (n : ℕ). WaitsOn (start_of p lim).links n m) (only.0 ∙ sym only.1) none);
 }
 
+abbrev first_notes : Notes
+first_notes = record { lows = []; makers = None ∷ [] }
+
+no_maker : (task number : ℕ) → ¬ (slice_get (None ∷ []) task ≡ Some (Some number))
+no_maker zero number is = cc (is)
+no_maker (suc task) number is = cc (is)
+
+first_noted : (p : Program) (lim : Bounds) (rows : List TaskRow) → AreNoted rows (start_of p lim) [] [] first_notes
+first_noted p lim rows = record {
+  lows_count = refl;
+  holders = λ i j a b leads at there kind. absurd (cc (at));
+  makers_count = refl;
+  makers = λ task number. (λ is. absurd (no_maker task number is), λ m. absurd (let there = m.there in cc (there)));
+  begun = λ number stage at. absurd (cc (at));
+}
+
 pub spans_first : (p : Program) (lim : Bounds) (marks : EffectMarks) (rows : List TaskRow) (journal : List Entry) → IsPlan p lim marks rows journal → (run : Spanning) → run.st ≡ start_of p lim
     → IsRecorder p run.recorder → HasRoomFor run.freeing.holders (length marks.rivals) → ((m : EffectMark) (t : ℕ) → ¬ Holds run.freeing.holders m t)
-    → run.freeing.ways ≡ first_ways → FrontHolds [] run.chains → IsSpanning p lim marks rows [] journal run
-spans_first p lim marks rows journal plan run st_is recorder room nobody ways front = record {
+    → run.freeing.ways ≡ first_ways → run.notes ≡ first_notes → FrontHolds [] run.chains → IsSpanning p lim marks rows [] journal run
+spans_first p lim marks rows journal plan run st_is recorder room nobody ways notes front = record {
   plan = plan;
   same = st_is;
   tree = recorder.0;
@@ -67,5 +85,6 @@ spans_first p lim marks rows journal plan run st_is recorder room nobody ways fr
     sound = λ i j l. absurd (let at = l.at_first in cc (at));
     covers = λ i j l. absurd (let at = l.at_first in cc (at));
   };
+  noted = subst (λ (x : State). AreNoted rows x [] [] run.notes) (sym st_is) (subst (AreNoted rows (start_of p lim) [] []) (sym notes) (first_noted p lim rows));
   followed = λ m first is undone w down other above i by. absurd (let at = by.1 in cc (at));
 }

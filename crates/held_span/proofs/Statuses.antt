@@ -257,3 +257,8 @@ module _ (p : Program) (lim : Bounds) (well : IsWellFormed p) (st : State) where
   pub enabled_by : (kind : Kind) (t : ℕ) (may : MayTake st kind t) (stands : Stands p lim st) → EnabledBy st (result_by_kind p lim st kind t).0 t (result_by_kind p lim st kind t).1
   enabled_by Admit t may stands = one_comes p lim well st Admit t may stands ends.Admitted refl refl (admitted_own st t may.0 (slice_get st.tasks t) refl)
   enabled_by Run t may stands = run_enabled t may stands (result_by_kind p lim st Run t).1 refl
+
+  -- and the mover has the status of its end
+  pub mover_after : (kind : Kind) (t : ℕ) → MayTake st kind t → Stands p lim st → HasStatus (result_by_kind p lim st kind t).0 t (status_after (result_by_kind p lim st kind t).1)
+  mover_after Admit t may stands = admitted_own st t may.0 (slice_get st.tasks t) refl
+  mover_after Run t may stands = (ran_stops p lim st t stands may (slice_get st.tasks t) refl).own

@@ -41,10 +41,12 @@ use Rattle.span_profile.specs.inner.Shows.{Shows}
 use Rattle.held_span.specs.Freed.{RunEntry, stage_weight, stages}
 use Rattle.held_span.specs.Ways.{IsOnWay, RowsInterfere}
 use Rattle.held_span.specs.declared.freeing.Freeing.{Freeing}
+use Rattle.held_span.specs.declared.notes.Notes.{Notes}
 use Rattle.held_span.specs.declared.spanning.Spanning.{Spanning}
 use Rattle.held_span.specs.inner.Freeing.{IsFreed, IsNotedBy, Walks}
 use Rattle.held_span.specs.inner.Holding.{HasRoomFor, HoldsOne, IsLowestOf}
 use Rattle.held_span.specs.inner.Keys.{mark_key}
+use Rattle.held_span.specs.inner.Noting.{AreNoted, low_of, noted}
 use Rattle.held_span.specs.inner.Paths.{IsPath}
 use Rattle.held_span.specs.inner.Spanning.{AreFollowed, AreHeld, AreLed, AreSpanned, IsEntryBy, IsSpanning, ShowsStage}
 use Rattle.held_span.specs.inner.Walking.{IsMakerOf}
@@ -55,11 +57,12 @@ use Rattle.held_span.proofs.FollowedStates.{followed_made, followed_on, followed
 use Rattle.held_span.proofs.Further.{leads_kept, leads_last}
 use Rattle.held_span.proofs.HeldStates.{HoldEnabled, held_after}
 use Rattle.held_span.proofs.LedStates.{led_made, led_on, led_walked, ways_entered}
+use Rattle.held_span.proofs.NotedEntries.{never_done, noted_more}
 use Rattle.held_span.proofs.NotedKeys.{asked_freed, asked_same, asks_base, asks_mark, asks_task, shows_noted}
 use Rattle.held_span.proofs.Paths.{path-map}
 use Rattle.held_span.proofs.Plans as plans
-use Rattle.held_span.proofs.SharedKeys.{AsksMark, AsksWay, task_share}
-use Rattle.held_span.proofs.SpannedNodes.{spanned_more}
+use Rattle.held_span.proofs.SharedKeys.{AsksMark, AsksWay, IsUndone, LeadsOrFrees, task_share}
+use Rattle.held_span.proofs.SpannedNodes.{spanned_more, told_new}
 use Rattle.held_span.proofs.Statuses.{EnabledBy, enabled_by, ends_by_kind}
 use Rattle.span_profile.proofs.Lists.{zip_length, zip_second}
 
@@ -146,9 +149,12 @@ module _ (p : Program) (lim : Bounds) (well : IsWellFormed p) (marks : EffectMar
   -- Once it was noted.
 
   module _ (first last : EntryKeys) (freeing : Freeing) (now : State) (now_is : now ≡ after) (first_end : first.end ≡ end) (keys : HasKeysOf p s.tree st mv first)
-      (weight : last.weight ≡ first.weight) (room : HasRoomFor freeing.holders (length marks.rivals)) (noted : IsNotedBy marks now mv.task run.freeing freeing first last first.end) where
-    noted_here : IsNotedBy marks after mv.task run.freeing freeing first last end
-    noted_here = subst (λ (e : End). IsNotedBy marks after mv.task run.freeing freeing first last e) first_end (subst (λ (x : State). IsNotedBy marks x mv.task run.freeing freeing first last first.end) now_is noted)
+      (weight : last.weight ≡ first.weight) (room : HasRoomFor freeing.holders (length marks.rivals)) (low : Option ℕ)
+      (noted_there : IsNotedBy marks now mv.task low run.freeing freeing first last first.end) where
+    noted_here : IsNotedBy marks after mv.task low run.freeing freeing first last end
+    noted_here =
+        subst (λ (e : End). IsNotedBy marks after mv.task low run.freeing freeing first last e) first_end
+        (subst (λ (x : State). IsNotedBy marks x mv.task low run.freeing freeing first last first.end) now_is noted_there)
 
     abbrev y : Node
     y = node_with last
@@ -156,7 +162,7 @@ module _ (p : Program) (lim : Bounds) (well : IsWellFormed p) (marks : EffectMar
     shown : (z : ShowsStage s.tree marks y stage) × (z.base ≡ node_with first)
     shown =
         shows_noted s.tree marks stage first last (subst (λ (e : End). Shows s.tree (node_with first) (entry_strands.strand_of p st (record { mv = mv; end = e }))) first_end keys)
-        (plans.stage_below p lim well marks rows before mv end rest s.plan st s.same) weight after mv.task run.freeing freeing end task
+        (plans.stage_below p lim well marks rows before mv end rest s.plan st s.same) weight after mv.task low run.freeing freeing end task
         (plans.stage_done p lim well marks rows before mv end rest s.plan st s.same) noted_here
 
     abbrev shows : ShowsStage s.tree marks y stage
@@ -166,13 +172,13 @@ module _ (p : Program) (lim : Bounds) (well : IsWellFormed p) (marks : EffectMar
     held_now = record {
       room = room;
       holds = subst (λ (x : State). HoldEnabled marks x freeing.holders) (sym now_is)
-          (held_after marks st after mv.task run.freeing freeing first last end s.held.holds
+          (held_after marks st after mv.task low run.freeing freeing first last end s.held.holds
           (subst (λ (e : End). EnabledBy st after mv.task e) end_is (enabled_by p lim well st mv.kind mv.task may stands)) noted_here);
     }
 
     -- What holds after the entry, by its end.
     record Taken : Type 0 where
-      asked : (key : Key) → Contains y.asks key → Contains first.asks key ⊎ (AsksMark marks stage key ⊎ AsksWay rows (length marks.lists) stage key)
+      asked : (key : Key) → Contains y.asks key → Contains first.asks key ⊎ (AsksMark marks stage key ⊎ AsksWay rows (length marks.lists) (low_of low) stage key)
       asks_first : (key : Key) → Contains first.asks key → Contains y.asks key
       asks_seen : stage.kind ≡ Admit → (mark : EffectMark) → Contains (seen_by marks stage.strand.task) mark → Contains y.asks (mark_key (length marks.lists) mark)
       ways : stage.kind ≡ Admit → (x w : ℕ) → RowsInterfere rows x stage.strand.task → IsOnWay stage.links x stage.strand.task w → (i : ℕ) → IsEntryBy (stages p lim before) i w
@@ -190,7 +196,7 @@ module _ (p : Program) (lim : Bounds) (well : IsWellFormed p) (marks : EffectMar
     taken_same : end ≢ ends.Admitted → last.asks ≡ first.asks → AreLed (before ++ entry ∷ []) after freeing.ways
         → AreFollowed freeing.ways after.links (s.nodes ++ y ∷ []) (stages p lim before ++ stage ∷ []) → Taken
     taken_same other same led followed = record {
-      asked = asked_same marks stage first last rows same;
+      asked = asked_same marks stage first last rows (low_of low) same;
       asks_first = λ key has. subst (λ (l : List Key). Contains l key) (sym same) has;
       asks_seen = λ kind. absurd (never_admitted other kind);
       ways = λ kind. absurd (never_admitted other kind);
@@ -204,7 +210,7 @@ module _ (p : Program) (lim : Bounds) (well : IsWellFormed p) (marks : EffectMar
         (followed_on p lim well before st stands mv end may alone run.freeing.ways s.led wait s.nodes (stages p lim before) same_length s.followed y stage task made_stage freeing.ways ways)
 
     -- an admission
-    module _ (admitted : end ≡ ends.Admitted) (freed : IsFreed marks run.freeing.holders run.freeing.ways freeing.ways mv.task first.asks last.asks) where
+    module _ (admitted : end ≡ ends.Admitted) (freed : IsFreed marks run.freeing.holders run.freeing.ways freeing.ways mv.task first.asks last.asks low) where
       kind : mv.kind ≡ Admit
       kind = ends_by_kind p lim well st mv.kind mv.task may stands (end_is ∙ admitted)
 
@@ -214,21 +220,20 @@ module _ (p : Program) (lim : Bounds) (well : IsWellFormed p) (marks : EffectMar
       later : Later st.tasks rows
       later = plans.rows_later p lim well marks rows before mv end rest s.plan st s.same
 
-      asks_ways : (w : ℕ) → Contains freed.walk w → AsksWay rows (length marks.lists) stage (Task w)
+      asks_ways : (w : ℕ) → Contains freed.walk w → AsksWay rows (length marks.lists) (low_of low) stage (Task w)
       asks_ways w has =
           let way = walk_ways p lim marks rows s.plan.marks_are st stands later run.freeing.holders s.held.holds mv.task may_admit before run.freeing.ways freeing.ways s.led wait
-          freed.low freed.lowest freed.walk freed.walks w has in
-          let up = way.3 in
+          low freed.lowest freed.walk freed.walks w has in
+          let up = way.2 in
           let below = (plans.stage_below p lim well marks rows before mv end rest s.plan st s.same).task in
           let here = task in
           record {
             kind = kind;
-            s = way.0;
             w = w;
             key_is = refl;
             below = omega (arith, up, below, here);
-            interfere = subst (RowsInterfere rows way.0) (sym task) way.1;
-            way = subst (λ (t : ℕ). IsOnWay st.links way.0 t w) (sym task) way.2;
+            interfere = subst (RowsInterfere rows (low_of low)) (sym task) way.0;
+            way = subst (λ (t : ℕ). IsOnWay st.links (low_of low) t w) (sym task) way.1;
           }
 
       direct : (w : ℕ) → Contains freed.walk w → (i : ℕ) → IsEntryBy (stages p lim before) i w → Leads SharesKey (s.nodes ++ y ∷ []) i (length s.nodes)
@@ -244,43 +249,43 @@ module _ (p : Program) (lim : Bounds) (well : IsWellFormed p) (marks : EffectMar
           let old = s.followed m one is undone w down other above i by in
           (old.0, old.1, (old.2.0, path-map (Leads SharesKey s.nodes) (Leads SharesKey (s.nodes ++ y ∷ [])) (leads_kept SharesKey s.nodes y) i old.2.0 old.0 old.2.1))
 
-      lows : (low : Option ℕ) → freed.low ≡ low → (x : ℕ) → low ≡ Some x → HoldsOne run.freeing.holders (seen_by marks mv.task) x
+      lows : (least : Option ℕ) → low ≡ least → (x : ℕ) → least ≡ Some x → HoldsOne run.freeing.holders (seen_by marks mv.task) x
       lows None is x some = absurd (cc (some))
       lows (Some z) is x some =
           let same : z ≡ x = cc (some) in
           subst (HoldsOne run.freeing.holders (seen_by marks mv.task)) same
           (subst (IsLowestOf (HoldsOne run.freeing.holders (seen_by marks mv.task))) is freed.lowest).0
 
-      low_waits : (x : ℕ) → freed.low ≡ Some x → (x ≤ mv.task) × WaitsOn st.links x mv.task
+      low_waits : (x : ℕ) → low ≡ Some x → (x ≤ mv.task) × WaitsOn st.links x mv.task
       low_waits x is =
-          let chain = holder_waits p lim marks rows s.plan.marks_are st stands later run.freeing.holders s.held.holds mv.task may_admit x (lows freed.low refl x is) in
+          let chain = holder_waits p lim marks rows s.plan.marks_are st stands later run.freeing.holders s.held.holds mv.task may_admit x (lows low refl x is) in
           (descends_up run.freeing.ways s.led.are (waits_descend run.freeing.ways s.led.are st.links wait chain), chain)
 
       all_ways : (x w : ℕ) → RowsInterfere rows x mv.task → IsOnWay st.links x mv.task w → (i : ℕ) → IsEntryBy (stages p lim before) i w
           → (between : List ℕ) × IsPath (Leads SharesKey (s.nodes ++ y ∷ [])) i between (length s.nodes)
       all_ways x w r way i by =
           way_covers p lim marks rows s.plan.marks_are st stands later run.freeing.holders s.held.holds mv.task may_admit before run.freeing.ways freeing.ways s.led wait
-          (IsEntryBy (stages p lim before)) (Leads SharesKey (s.nodes ++ y ∷ [])) (length s.nodes) freed.walk direct covered freed.low freed.lowest freed.walks x w r way i by
+          (IsEntryBy (stages p lim before)) (Leads SharesKey (s.nodes ++ y ∷ [])) (length s.nodes) freed.walk direct covered low freed.lowest freed.walks x w r way i by
 
-      low_ways : (x : ℕ) → freed.low ≡ Some x → (w : ℕ) → Chain (IsMakerOf run.freeing.ways.makers) w mv.task → w ≢ mv.task → x ≤ w → (i : ℕ) → IsEntryBy (stages p lim before) i w
+      low_ways : (x : ℕ) → low ≡ Some x → (w : ℕ) → Chain (IsMakerOf run.freeing.ways.makers) w mv.task → w ≢ mv.task → x ≤ w → (i : ℕ) → IsEntryBy (stages p lim before) i w
           → (between : List ℕ) × IsPath (Leads SharesKey (s.nodes ++ y ∷ [])) i between (length s.nodes)
       low_ways x is w down other above i by =
           low_covers p lim marks rows s.plan.marks_are st stands later run.freeing.holders s.held.holds mv.task may_admit before run.freeing.ways freeing.ways s.led wait
-          (IsEntryBy (stages p lim before)) (Leads SharesKey (s.nodes ++ y ∷ [])) (length s.nodes) freed.walk direct covered x (lows freed.low refl x is)
+          (IsEntryBy (stages p lim before)) (Leads SharesKey (s.nodes ++ y ∷ [])) (length s.nodes) freed.walk direct covered x (lows low refl x is)
           (subst (λ (low : Option ℕ). Walks run.freeing.ways freeing.ways low mv.task freed.walk) is freed.walks) w down other above i by
 
       taken_admitted : Taken
       taken_admitted = record {
-        asked = asked_freed marks stage first last rows freed.walk mv.task task kind freed.keys asks_ways;
+        asked = asked_freed marks stage first last rows freed.walk mv.task task kind freed.keys (low_of low) asks_ways;
         asks_first = asks_base marks stage first last rows freed.walk mv.task task kind freed.keys;
         asks_seen = λ admission. asks_mark marks stage first last rows freed.walk mv.task task kind freed.keys;
         ways = λ admission x w r way. all_ways x w (subst (RowsInterfere rows x) task r) (subst (λ (t : ℕ). IsOnWay st.links x t w) task way);
-        led = led_walked p lim well before st stands mv end may alone run.freeing.ways s.led (ap made_by admitted) freed.low freed.walk freeing.ways low_waits freed.walks;
+        led = led_walked p lim well before st stands mv end may alone run.freeing.ways s.led (ap made_by admitted) low freed.walk freeing.ways low_waits freed.walks;
         followed = followed_walked p lim well before st stands mv end may alone run.freeing.ways s.led wait s.nodes (stages p lim before) same_length s.followed y stage task made_stage
-            freed.low freed.walk freeing.ways admitted freed.walks low_ways;
+            low freed.walk freeing.ways admitted freed.walks low_ways;
       }
 
-    by_end : (e : End) → end ≡ e → IsNotedBy marks after mv.task run.freeing freeing first last e → Taken
+    by_end : (e : End) → end ≡ e → IsNotedBy marks after mv.task low run.freeing freeing first last e → Taken
     by_end ends.Admitted is n = taken_admitted is n.0
     by_end (ends.Made c) is n =
         taken_same (λ same. let both : ends.Made c ≡ ends.Admitted = sym is ∙ same in cc (both)) n.0
@@ -299,6 +304,30 @@ module _ (p : Program) (lim : Bounds) (well : IsWellFormed p) (marks : EffectMar
     taken : Taken
     taken = by_end end refl noted_here
 
+    undone : (i : ℕ) (a : RunEntry) → slice_get (stages p lim before) i ≡ Some a → IsUndone (low_of low) a stage
+    undone i a at w way by = never_done p lim st stands a.strand (s.noted.begun i a at) (low_of low) stage.strand.task w way by
+
+    -- what is known of the nodes
+    spanned_now : AreSpanned rows s.tree marks (s.nodes ++ y ∷ []) (stages p lim before ++ stage ∷ [])
+    spanned_now =
+        spanned_more rows marks s.plan.marks_are many s.tree s.nodes (stages p lim before) s.spanned y stage shows (low_of low) undone
+        (λ key has. subst (λ (n : Node). Contains n.asks key ⊎ (AsksMark marks stage key ⊎ AsksWay rows (length marks.lists) (low_of low) stage key)) (sym shown.1) (taken.asked key has))
+        (λ key has. taken.asks_first key (subst (λ (n : Node). Contains n.asks key) shown.1 has)) taken.asks_seen taken.ways
+
+    -- and what was noted
+    told_last : (i : ℕ) (x : Node) (a : RunEntry) → slice_get s.nodes i ≡ Some x → slice_get (stages p lim before) i ≡ Some a → SharesKey x y → LeadsOrFrees rows (low_of low) a stage
+    told_last =
+        told_new rows marks s.plan.marks_are many s.tree s.nodes (stages p lim before) s.spanned y stage shows (low_of low) undone
+        (λ key has. subst (λ (n : Node). Contains n.asks key ⊎ (AsksMark marks stage key ⊎ AsksWay rows (length marks.lists) (low_of low) stage key)) (sym shown.1) (taken.asked key has))
+        (λ key has. taken.asks_first key (subst (λ (n : Node). Contains n.asks key) shown.1 has)) taken.asks_seen taken.ways
+
+    noted_now : AreNoted rows after (s.nodes ++ y ∷ []) (stages p lim before ++ stage ∷ []) (noted run.notes end low)
+    noted_now =
+        noted_more p lim well rows st stands mv end may end_is alone s.nodes (stages p lim before) same_length run.notes s.noted y stage refl
+        (plans.stage_admits p lim well marks rows before mv end rest s.plan st s.same)
+        (plans.stage_makes p lim well marks rows before mv end rest s.plan st s.same)
+        (plans.stage_done p lim well marks rows before mv end rest s.plan st s.same) task low told_last
+
     -- there is room for the entry
     pub has_room : IsWithin lim.fuel lim.tasks → HasRoom run.chains last.weight
     has_room within =
@@ -311,9 +340,9 @@ module _ (p : Program) (lim : Bounds) (well : IsWellFormed p) (marks : EffectMar
         (s.nodes, s.front, omega (arith, small, same, sum, old, this))
 
     -- so the run goes on
-    pub spans_on : (next : Spanning) → next.st ≡ now → next.freeing ≡ freeing → Records p s.tree next.recorder → FrontHolds (s.nodes ++ y ∷ []) next.chains
-        → IsSpanning p lim marks rows (before ++ entry ∷ []) rest next
-    spans_on next st_is freeing_is records front =
+    pub spans_on : (next : Spanning) → next.st ≡ now → next.freeing ≡ freeing → next.notes ≡ noted run.notes end low → Records p s.tree next.recorder
+        → FrontHolds (s.nodes ++ y ∷ []) next.chains → IsSpanning p lim marks rows (before ++ entry ∷ []) rest next
+    spans_on next st_is freeing_is notes_are records front =
         let here : next.st ≡ after = st_is ∙ now_is in
         record {
           plan = plans.plan_after p lim well marks rows before mv end rest s.plan st s.same;
@@ -324,10 +353,10 @@ module _ (p : Program) (lim : Bounds) (well : IsWellFormed p) (marks : EffectMar
           led = subst (λ (x : State). AreLed (before ++ entry ∷ []) x next.freeing.ways) (sym here) (subst (λ (f : Freeing). AreLed (before ++ entry ∷ []) after f.ways) (sym freeing_is) taken.led);
           nodes = s.nodes ++ y ∷ [];
           front = front;
-          spanned = subst (AreSpanned rows s.tree marks (s.nodes ++ y ∷ [])) (sym stages_are)
-              (spanned_more rows marks s.plan.marks_are many s.tree s.nodes (stages p lim before) s.spanned y stage shows
-              (λ key has. subst (λ (n : Node). Contains n.asks key ⊎ (AsksMark marks stage key ⊎ AsksWay rows (length marks.lists) stage key)) (sym shown.1) (taken.asked key has))
-              (λ key has. taken.asks_first key (subst (λ (n : Node). Contains n.asks key) shown.1 has)) taken.asks_seen taken.ways);
+          spanned = subst (AreSpanned rows s.tree marks (s.nodes ++ y ∷ [])) (sym stages_are) spanned_now;
+          noted = subst (λ (l : List RunEntry). AreNoted rows next.st (s.nodes ++ y ∷ []) l next.notes) (sym stages_are)
+              (subst (λ (x : State). AreNoted rows x (s.nodes ++ y ∷ []) (stages p lim before ++ stage ∷ []) next.notes) (sym here)
+              (subst (λ (n : Notes). AreNoted rows after (s.nodes ++ y ∷ []) (stages p lim before ++ stage ∷ []) n) (sym notes_are) noted_now));
           followed = subst (λ (l : List RunEntry). AreFollowed next.freeing.ways next.st.links (s.nodes ++ y ∷ []) l) (sym stages_are)
               (subst (λ (x : State). AreFollowed next.freeing.ways x.links (s.nodes ++ y ∷ []) (stages p lim before ++ stage ∷ [])) (sym here)
               (subst (λ (f : Freeing). AreFollowed f.ways after.links (s.nodes ++ y ∷ []) (stages p lim before ++ stage ∷ [])) (sym freeing_is) taken.followed));
@@ -335,9 +364,9 @@ module _ (p : Program) (lim : Bounds) (well : IsWellFormed p) (marks : EffectMar
 
   -- also if it was not sure that the call came to an end
   pub spans_back : {T E : Type 0} (result : Result T E) (first last : EntryKeys) (freeing : Freeing) (now : State) → now ≡ after → first.end ≡ end → HasKeysOf p s.tree st mv first
-      → last.weight ≡ first.weight → HasRoomFor freeing.holders (length marks.rivals) → IsNotedBy marks now mv.task run.freeing freeing first last first.end
-      → (next : Spanning) → next.st ≡ now → next.freeing ≡ freeing → Records p s.tree next.recorder → OnOk result (FrontHolds (s.nodes ++ node_with last ∷ []) next.chains)
-      → OnOk result (IsSpanning p lim marks rows (before ++ entry ∷ []) rest next)
-  spans_back (Ok x) first last freeing now now_is first_end keys weight room noted next st_is freeing_is records front =
-      spans_on first last freeing now now_is first_end keys weight room noted next st_is freeing_is records front
-  spans_back (Err e) first last freeing now now_is first_end keys weight room noted next st_is freeing_is records front = tt
+      → last.weight ≡ first.weight → HasRoomFor freeing.holders (length marks.rivals) → (low : Option ℕ) → IsNotedBy marks now mv.task low run.freeing freeing first last first.end
+      → (next : Spanning) → next.st ≡ now → next.freeing ≡ freeing → next.notes ≡ noted run.notes end low → Records p s.tree next.recorder
+      → OnOk result (FrontHolds (s.nodes ++ node_with last ∷ []) next.chains) → OnOk result (IsSpanning p lim marks rows (before ++ entry ∷ []) rest next)
+  spans_back (Ok x) first last freeing now now_is first_end keys weight room low noted_there next st_is freeing_is notes_are records front =
+      spans_on first last freeing now now_is first_end keys weight room low noted_there next st_is freeing_is notes_are records front
+  spans_back (Err e) first last freeing now now_is first_end keys weight room low noted_there next st_is freeing_is notes_are records front = tt

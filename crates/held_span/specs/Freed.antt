@@ -24,13 +24,18 @@ pub record RunEntry : Type 0 where
 abbrev pub IsBy : Strand → ℕ → Type 0
 IsBy strand task = (strand.task ≡ task) ⊎ (strand.made ≡ Some task)
 
--- What the first entry did frees the admission that is the second, if the tasks of the run have these rows.
-pub data Frees (rows : List TaskRow) (a b : RunEntry) : Type 0 where
-  -- it has ended a task whose effects interfere with those of the admitted one
-  by_end : b.kind ≡ Admit → IsTrue a.strand.done → RowsInterfere rows a.strand.task b.strand.task → Frees rows a b
-  -- it is by a task through which one waits for the admitted one whose effects interfere with those of that
-  by_wait : b.kind ≡ Admit → (s w : ℕ) → RowsInterfere rows s b.strand.task → IsOnWay b.links s b.strand.task w → IsBy a.strand w
-      → Frees rows a b
+-- What the first entry did frees the admission that is the second from this holder, if the tasks of the run have these rows.
+pub data FreesFrom (rows : List TaskRow) (holder : ℕ) (a b : RunEntry) : Type 0 where
+  -- it has ended the holder, whose effects interfere with those of the admitted task
+  by_end : b.kind ≡ Admit → IsTrue a.strand.done → a.strand.task ≡ holder → RowsInterfere rows holder b.strand.task
+      → FreesFrom rows holder a b
+  -- it is by a task through which the holder waits for the admitted one, and their effects interfere
+  by_wait : b.kind ≡ Admit → (w : ℕ) → RowsInterfere rows holder b.strand.task → IsOnWay b.links holder b.strand.task w
+      → IsBy a.strand w → FreesFrom rows holder a b
+
+-- What the first entry did frees the admission that is the second from some task.
+abbrev pub Frees : List TaskRow → RunEntry → RunEntry → Type 0
+Frees rows a b = (holder : ℕ) × FreesFrom rows holder a b
 
 -- the second entry follows the first: the first leads to it, or frees it
 abbrev pub FollowsFreed : List TaskRow → RunEntry → RunEntry → Type 0

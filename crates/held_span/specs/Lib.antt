@@ -1,4 +1,5 @@
 pub mod Freed
 pub mod HeldSpans
+pub mod Holds
 pub mod Ways
 pub mod inner

@@ -41,26 +41,30 @@ impl Freeing {
         })
     }
 
-    /// Adds the keys of what frees the admission of a task.
+    /// Adds the keys of what frees the admission of a task, and returns the lowest enabled task whose effects interfere with its own,
+    /// if there is one.
     fn free(
         &mut self,
         alloc: Global,
         marks: &EffectMarks,
         asks: &mut List<Key>,
         t: u32,
-    ) -> Result<(), Memory>
+    ) -> Result<Option<u32>, Memory>
         requires numbered { AreNumbered marks.now }
         requires ways { AreWays self.old.ways }
         requires there { t < length self.old.ways.makers }
         ensures holders { OnOk result (self.new.holders ≡ self.old.holders) }
-        ensures freed { OnOk result (IsFreed marks.now self.old.holders self.old.ways self.new.ways t asks.old asks.new) }
+        ensures freed { IfOk result (IsFreed marks.now self.old.holders self.old.ways self.new.ways t asks.old asks.new) }
     {
         let tasks = marks.lists.len() as u32;
         let seen = marks.seen_by(alloc, t)?;
         push_marks(asks, tasks, seen.as_slice())?;
         match self.holders.lowest(seen.as_slice()) {
-            None => Ok(()),
-            Some(s) => self.ways.push_way(asks, s, t),
+            None => Ok(None),
+            Some(s) => {
+                self.ways.push_way(asks, s, t)?;
+                Ok(Some(s))
+            }
         }
     }
 
@@ -136,7 +140,8 @@ impl Freeing {
         Ok(())
     }
 
-    /// Notes a move of t, after which the state is this one, and adds the keys of what frees it, or of what it frees.
+    /// Notes a move of t, after which the state is this one, and adds the keys of what frees it, or of what it frees. It returns
+    /// the lowest enabled task whose effects interfere with those of t, if the move admits t and there is one.
     pub(crate) fn note(
         &mut self,
         alloc: Global,
@@ -144,7 +149,7 @@ impl Freeing {
         st: &State,
         t: u32,
         keys: &mut EntryKeys,
-    ) -> Result<(), Memory>
+    ) -> Result<Option<u32>, Memory>
         requires numbered { AreNumbered marks.now }
         requires room { HasRoomFor self.old.holders (length marks.now.rivals) }
         requires ways { AreWays self.old.ways }
@@ -154,17 +159,28 @@ impl Freeing {
         ensures room { OnOk result (HasRoomFor self.new.holders (length marks.now.rivals)) }
         ensures end { OnOk result (keys.new.end ≡ keys.old.end) }
         ensures weight { OnOk result (keys.new.weight ≡ keys.old.weight) }
-        ensures noted { OnOk result (IsNotedBy marks.now st.now t self.old self.new keys.old keys.new keys.old.end) }
+        ensures noted { IfOk result (λ low.
+            IsNotedBy marks.now st.now t low self.old self.new keys.old keys.new keys.old.end) }
     {
         match keys.end {
             End::Admitted => {
-                self.free(alloc, marks, &mut keys.asks, t)?;
-                self.enable(alloc, marks, t)
+                let low = self.free(alloc, marks, &mut keys.asks, t)?;
+                self.enable(alloc, marks, t)?;
+                Ok(low)
             }
-            End::Made { child } => self.note_made(alloc, marks, st, t, child),
-            End::Done { .. } => self.note_done(alloc, marks, &mut keys.gives, t),
-            End::Fault { .. } => self.disable(alloc, marks, t),
-            End::Waits { .. } | End::Joins { .. } => Ok(()),
+            End::Made { child } => {
+                self.note_made(alloc, marks, st, t, child)?;
+                Ok(None)
+            }
+            End::Done { .. } => {
+                self.note_done(alloc, marks, &mut keys.gives, t)?;
+                Ok(None)
+            }
+            End::Fault { .. } => {
+                self.disable(alloc, marks, t)?;
+                Ok(None)
+            }
+            End::Waits { .. } | End::Joins { .. } => Ok(None),
         }
     }
 }

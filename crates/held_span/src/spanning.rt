@@ -1,4 +1,4 @@
-//! The held span of a list of moves.
+//! The held span of a list of moves, the times of its entries, and the admissions that were held.
 ghost use Rattle.std.specs.Prelude.{◌≡◌, ◌<◌, ◌++◌, [], ◌∷◌, ℕ, List as AnyList, Some, IfOk, IsErrOf, IsTrue, OnOk, slice_get};
 ghost use Rattle.effect_sets.specs.Filled.{all_filled};
 ghost use Rattle.seg_journal.specs.declared.journal.End.{End};
@@ -9,21 +9,37 @@ ghost use Rattle.twe_machine.specs.declared.state.TaskRow.{TaskRow as AnyRow};
 ghost use Rattle.twe_machine.specs.Replays.{IsFirstIllegal};
 ghost use Rattle.effect_marks.specs.Gathering.{AreGathered};
 ghost use Rattle.effect_marks.specs.Marks.{AreMarksOf};
-ghost use Rattle.held_span.specs.HeldSpans.{IsHeldSpan};
+ghost use Rattle.held_span.specs.HeldSpans.{IsHeldProfile};
 ghost use Rattle.held_span.specs.inner.Freeing.{AreNumbered};
 ghost use Rattle.held_span.specs.inner.Spanning.{IsPlan, IsSpanning, effect_lists};
 
 use crate::freeing::Freeing;
+use crate::hold::Hold;
+use crate::holds::holds_of;
 use crate::keys::number_keys;
+use crate::notes::Notes;
 use effect_marks::{EffectMarks, Gathered};
 use run_advice::counted_run;
 use seg_journal::{Limits, Move};
 use span_profile::Recorder;
-use span_profile::heaviest_chain::Chains;
+use span_profile::heaviest_chain::{Chains, Heaviest};
 use std::alloc::Global;
-use twe_base::Memory;
+use twe_base::{List, Memory};
 use twe_machine::{ReplayFail, State, TaskRow, start};
 use twe_program::Prog;
+
+/// The held span of a run, and the times of its entries, if each begins as soon as all that lead to it or free it have ended.
+#[derive(Debug, Drop)]
+pub struct HeldProfile {
+    /// The weight of the heaviest chain of its entries, which is when the last of them ends.
+    pub span: u64,
+    /// For each entry the time at which it begins.
+    pub starts: List<u64>,
+    /// For each entry the time at which it ends.
+    pub ends: List<u64>,
+    /// The admissions that were held, in their order.
+    pub holds: List<Hold>,
+}
 
 /// A run under way, with the chains of its entries.
 #[derive(Debug, Drop)]
@@ -31,6 +47,7 @@ struct Spanning {
     st: State,
     recorder: Recorder,
     freeing: Freeing,
+    notes: Notes,
     chains: Chains,
 }
 
@@ -71,6 +88,7 @@ impl Spanning {
             st,
             recorder: Recorder::new(alloc, p, cells)?,
             freeing: Freeing::new(alloc, marks)?,
+            notes: Notes::new(alloc)?,
             chains: Chains::new(alloc),
         })
     }
@@ -93,20 +111,28 @@ impl Spanning {
         let _main = p.main;
         let _tasks = lim.tasks;
         let mut keys = self.recorder.take(alloc, p, lim, &mut self.st, mv)?;
-        self.freeing
+        let low = self
+            .freeing
             .note(alloc, marks, &self.st, mv.task, &mut keys)?;
+        self.notes.add(keys.end, low)?;
         self.chains
             .add(keys.weight, keys.asks.as_slice(), keys.gives.as_slice())
     }
 }
 
 /// The held span of a run of the program under these limits that makes these moves: the weight of a heaviest chain of its
-/// entries, if an admission also follows what freed it. Entries after the first fault do not count, but their moves have to be
-/// legal too. If the moves are not all legal, it returns the number of the first that is not, counted from 1, and why it is not.
+/// entries, if an admission also follows what freed it; with the earliest times of its entries in that order, and the admissions
+/// that were held. Entries after the first fault do not count, but their moves have to be legal too. If the moves are not all
+/// legal, it returns the number of the first that is not, counted from 1, and why it is not.
 ///
 /// An admission is compared with those effects alone that are placed where its own are, above or below, and that interfere.
-pub fn held_span(alloc: Global, p: &Prog, lim: Limits, moves: &[Move]) -> Result<u64, ReplayFail>
-    ensures held { IfOk result (IsHeldSpan p.now lim moves.now) }
+pub fn held_profile(
+    alloc: Global,
+    p: &Prog,
+    lim: Limits,
+    moves: &[Move],
+) -> Result<HeldProfile, ReplayFail>
+    ensures held { IfOk result (λ h. IsHeldProfile p.now lim moves.now h.span h.starts h.ends h.holds) }
     ensures illegal { (n : ℕ) (why : Reason) → IsErrOf result (Illegal n why) → IsFirstIllegal p.now lim moves.now n why }
 {
     let _main = p.main;
@@ -117,7 +143,16 @@ pub fn held_span(alloc: Global, p: &Prog, lim: Limits, moves: &[Move]) -> Result
     for entry in journal.as_slice() {
         run.take(alloc, p, lim, &marks, entry.mv)?;
     }
-    let Spanning { chains, .. } = run;
+    let Spanning { chains, notes, .. } = run;
     let heaviest = chains.heaviest(alloc)?;
-    Ok(heaviest.span)
+    let holds = holds_of(alloc, journal.as_slice(), &notes, &heaviest)?;
+    let Heaviest {
+        span, starts, ends, ..
+    } = heaviest;
+    Ok(HeldProfile {
+        span,
+        starts,
+        ends,
+        holds,
+    })
 }

@@ -18,6 +18,10 @@ use Rattle.span_profile.specs.LeadsTo.{LeadsTo}
 use Rattle.span_profile.specs.Strands.{Strand, strands, weight_of}
 use Rattle.span_profile.specs.heaviest_chain.Chains.{Leads, weight_at}
 use Rattle.span_profile.proofs.Counted.{counted_legal}
+use Rattle.held_span.specs.Freed.{FollowsFreed, Frees, RunEntry, stage_weight, stages}
+use Rattle.held_span.specs.Holds.{AreHolds}
+use Rattle.held_span.specs.declared.hold.Hold.{Hold}
+use Rattle.held_span.proofs.StrandStages.{leads_still, strand_count, weights_at}
 use Rattle.run_picture.specs.Bars.{Shows, bar_length, end_of_bars, time_at, time_found}
 use Rattle.run_picture.specs.Pictures.{IsPicture}
 use Rattle.run_picture.specs.declared.bars.Mark.{Mark}
@@ -60,12 +64,19 @@ sums_same number (strand ∷ all) (bar ∷ bars) shows each =
     let right = sum_by-cons weight_of strand all in
     omega (arith, first, rest, left, right)
 
-module _ (p : Program) (lim : Bounds) (moves : List Move) (work span : ℕ) (chain : List ℕ) (bars : List Mark) (tasks : List TaskRow) (picture : IsPicture p lim moves work span chain bars tasks) where
-  abbrev journal : List Entry
+module _ (p : Program) (lim : Bounds) (moves : List Move) (work span held : ℕ) (chain : List ℕ) (bars : List Mark) (tasks : List TaskRow) (holds : List Hold)
+    (picture : IsPicture p lim moves work span held chain bars tasks holds) where
+  abbrev pub journal : List Entry
   journal = counted picture.drawn.journal
 
   abbrev all : List Strand
   all = strands p lim journal
+
+  abbrev pub staged : List RunEntry
+  staged = stages p lim journal
+
+  abbrev pub rows : List TaskRow
+  rows = picture.times.held.st.tasks
 
   pub one_bar_each : Shows 0 all bars
   one_bar_each =
@@ -75,13 +86,23 @@ module _ (p : Program) (lim : Bounds) (moves : List Move) (work span : ℕ) (cha
   as_long : length all ≡ length bars
   as_long = as_many 0 all bars one_bar_each
 
+  as_staged : length all ≡ length staged
+  as_staged = strand_count p lim (start_of p lim) journal
+
   -- the times are those of this journal
-  earliest : AreEarliest (Leads LeadsTo all) (weight_at weight_of all) (length all) span picture.starts picture.ends
+  same_journal : picture.times.held.journal ≡ journal
+  same_journal =
+      let run = picture.times.held.run in
+      run.journal_is
+      ∙ ap counted (one_from p lim (start_of p lim) run.whole picture.drawn.journal run.legal picture.drawn.legal (run.has ∙ sym picture.drawn.has))
+
+  pub earliest : AreEarliest (Leads (FollowsFreed rows) staged) (weight_at stage_weight staged) (length staged) held picture.starts picture.ends
   earliest =
-      let same : picture.times.journal ≡ picture.drawn.journal =
-      one_from p lim (start_of p lim) picture.times.journal picture.drawn.journal picture.times.legal picture.drawn.legal (picture.times.has ∙ sym picture.drawn.has) in
-      subst (λ (j : List Entry). AreEarliest (Leads LeadsTo (strands p lim (counted j))) (weight_at weight_of (strands p lim (counted j))) (length (strands p lim (counted j))) span picture.starts picture.ends)
-      same picture.times.earliest
+      subst (λ (j : List Entry). AreEarliest (Leads (FollowsFreed rows) (stages p lim j)) (weight_at stage_weight (stages p lim j)) (length (stages p lim j)) held picture.starts picture.ends)
+      same_journal picture.times.times
+
+  pub holds_are : AreHolds rows staged picture.starts picture.ends holds
+  holds_are = subst (λ (j : List Entry). AreHolds rows (stages p lim j) picture.starts picture.ends holds) same_journal picture.times.holds_are
 
   work_is : work ≡ sum_by weight_of all
   work_is =
@@ -96,16 +117,23 @@ module _ (p : Program) (lim : Bounds) (moves : List Move) (work span : ℕ) (cha
       subst (λ (l : List Mark). IsPlacedAt p lim picture.starts picture.ends (take k l) (0 + k) bar) (sym are)
       (placed p lim picture.starts picture.ends (start_of p lim) [] journal k bar (sym (ap (λ (l : List Mark). slice_get l k) are) ∙ here))
 
-  below : (k : ℕ) (bar : Mark) → slice_get bars k ≡ Some bar → k < length all
-  below k bar here = let less = slice_get_within bars k bar here in let same = as_long in omega (arith, less, same)
+  below : (k : ℕ) (bar : Mark) → slice_get bars k ≡ Some bar → k < length staged
+  below k bar here =
+      let less = slice_get_within bars k bar here in
+      let same = as_long in
+      let other = as_staged in
+      omega (arith, less, same, other)
 
-  begins_at : (k : ℕ) (bar : Mark) → slice_get bars k ≡ Some bar → bar.begins ≡ slice_index picture.starts k
+  pub bar_there : (k : ℕ) → k < length staged → (bar : Mark) × (slice_get bars k ≡ Some bar)
+  bar_there k less = let same = as_long in let other = as_staged in below_there bars k (omega (arith, less, same, other))
+
+  pub begins_at : (k : ℕ) (bar : Mark) → slice_get bars k ≡ Some bar → bar.begins ≡ slice_index picture.starts k
   begins_at k bar here =
       let less = below k bar here in
       let many = earliest.starts_count in
       (place k bar here).begins_is ∙ (ap (time_at picture.starts) (from_zero k) ∙ time_is picture.starts k (omega (arith, less, many)))
 
-  ends_at : (k : ℕ) (bar : Mark) → slice_get bars k ≡ Some bar → bar.ends ≡ slice_index picture.ends k
+  pub ends_at : (k : ℕ) (bar : Mark) → slice_get bars k ≡ Some bar → bar.ends ≡ slice_index picture.ends k
   ends_at k bar here =
       let less = below k bar here in
       let many = earliest.ends_count in
@@ -116,27 +144,35 @@ module _ (p : Program) (lim : Bounds) (moves : List Move) (work span : ℕ) (cha
       let begin = begins_at k bar here in
       let end = ends_at k bar here in
       let takes = earliest.takes k (below k bar here) in
-      omega (arith, begin, end, takes)
+      let same = weights_at p lim (start_of p lim) journal k in
+      omega (arith, begin, end, takes, same)
 
-  pub ends_first : (i j : ℕ) (first second : Mark) → slice_get bars i ≡ Some first → slice_get bars j ≡ Some second → Leads LeadsTo all i j → first.ends ≤ second.begins
+  ends_first : (i j : ℕ) (first second : Mark) → slice_get bars i ≡ Some first → slice_get bars j ≡ Some second → Leads (FollowsFreed rows) staged i j → first.ends ≤ second.begins
   ends_first i j first second here there leads =
       let end = ends_at i first here in
       let begin = begins_at j second there in
       let order = earliest.ordered i j (below i first here) (below j second there) leads in
       omega (arith, end, begin, order)
 
-  within_span : end_of_bars bars ≤ span
-  within_span = ends_within bars span (λ k bar here. let end = ends_at k bar here in let most = earliest.within k (below k bar here) in omega (arith, end, most))
+  pub leads_first : (i j : ℕ) (first second : Mark) → slice_get bars i ≡ Some first → slice_get bars j ≡ Some second → Leads LeadsTo all i j → first.ends ≤ second.begins
+  leads_first i j first second here there leads = ends_first i j first second here there (leads_still p lim rows journal i j leads)
 
-  reaches_span : (entry : ℕ) → entry < length all → slice_index picture.ends entry ≡ span → span ≤ end_of_bars bars
+  pub frees_first : (i j : ℕ) (first second : Mark) → slice_get bars i ≡ Some first → slice_get bars j ≡ Some second → Leads (Frees rows) staged i j → first.ends ≤ second.begins
+  frees_first i j first second here there frees =
+      ends_first i j first second here there
+      (record { before = frees.before; first = frees.first; second = frees.second; at_first = frees.at_first; at_second = frees.at_second; leads = inr frees.leads })
+
+  within_span : end_of_bars bars ≤ held
+  within_span = ends_within bars held (λ k bar here. let end = ends_at k bar here in let most = earliest.within k (below k bar here) in omega (arith, end, most))
+
+  reaches_span : (entry : ℕ) → entry < length staged → slice_index picture.ends entry ≡ held → held ≤ end_of_bars bars
   reaches_span entry less is =
-      let many = as_long in
-      let there = below_there bars entry (omega (arith, less, many)) in
+      let there = bar_there entry less in
       let end = ends_at entry there.0 there.1 in
       let most = one_within bars entry there.0 there.1 in
       omega (arith, is, end, most)
 
-  pub ends_at_span : end_of_bars bars ≡ span
+  pub ends_at_span : end_of_bars bars ≡ held
   ends_at_span = elim earliest.reached [
     | inl none ↦ (let most = within_span in omega (arith, none, most))
     | inr last ↦ (let most = within_span in let least = reaches_span last.0 last.1 last.2 in omega (arith, most, least))

@@ -1,4 +1,5 @@
 pub mod Drawn
+pub mod HeldBars
 pub mod InTime
 pub mod Links
 pub mod Shown

@@ -1,3 +1,4 @@
 pub mod Bars
+pub mod HeldBars
 pub mod Pictures
 pub mod inner

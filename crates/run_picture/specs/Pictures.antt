@@ -8,7 +8,9 @@ use Rattle.twe_program.specs.Program.{Program}
 use Rattle.twe_machine.specs.declared.state.TaskRow.{TaskRow}
 use Rattle.twe_machine.specs.Moves.{start_of}
 use Rattle.twe_machine.specs.Runs.{Legal, counted, state_after}
-use Rattle.span_profile.specs.Profiles.{HasEarliest, IsProfile}
+use Rattle.span_profile.specs.Profiles.{IsProfile}
+use Rattle.held_span.specs.HeldSpans.{IsHeldProfile}
+use Rattle.held_span.specs.declared.hold.Hold.{Hold}
 use Rattle.run_picture.specs.Bars.{bars_from}
 use Rattle.run_picture.specs.declared.bars.Mark.{Mark}
 
@@ -22,11 +24,17 @@ pub record AreBars (p : Program) (lim : Bounds) (moves : List Move) (starts ends
   pub bars_are : bars ≡ bars_from p lim starts ends (start_of p lim) [] (counted journal)
   pub tasks_are : tasks ≡ (state_after p lim journal).tasks
 
--- the bars and the tasks of the moves, with their profile; each bar stands at the earliest times of its entry
-pub record IsPicture (p : Program) (lim : Bounds) (moves : List Move) (work span : ℕ) (chain : List ℕ)
-    (bars : List Mark) (tasks : List TaskRow) : Type 0 where
+-- the bars, the tasks and the holds of the moves, with their profiles; each bar stands at the earliest times of its entry, if an
+-- admission also follows what freed it
+pub record IsPicture (p : Program) (lim : Bounds) (moves : List Move) (work span held : ℕ) (chain : List ℕ)
+    (bars : List Mark) (tasks : List TaskRow) (holds : List Hold) : Type 0 where
   pub starts : List ℕ
   pub ends : List ℕ
   pub profile : IsProfile p lim moves work span chain
-  pub times : HasEarliest p lim moves span starts ends
+  pub times : IsHeldProfile p lim moves held starts ends holds
   pub drawn : AreBars p lim moves starts ends bars tasks
+
+-- the rows of the tasks at the end of the part that counts
+abbrev pub held_rows : {p : Program} {lim : Bounds} {moves : List Move} {work span held : ℕ} {chain : List ℕ} {bars : List Mark}
+    {tasks : List TaskRow} {holds : List Hold} → IsPicture p lim moves work span held chain bars tasks holds → List TaskRow
+held_rows picture = picture.times.held.st.tasks

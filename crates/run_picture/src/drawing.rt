@@ -10,6 +10,7 @@ ghost use Rattle.run_picture.specs.Pictures.{AreBars, IsPicture};
 ghost use Rattle.run_picture.specs.inner.Drawn.{IsDrawn};
 
 use crate::bars::{Bars, Mark, Times};
+use held_span::{HeldProfile, Hold, held_profile};
 use seg_journal::{End, Entry, Journal, Limits, Move};
 use span_profile::{Profile, profile};
 use std::alloc::Global;
@@ -22,14 +23,18 @@ use twe_program::Prog;
 pub struct Picture {
     /// The work of the run.
     pub work: u64,
-    /// Its span, which is when the last bar ends.
+    /// Its span, if an admission need not follow what freed it.
     pub span: u64,
+    /// Its held span, which is when the last bar ends.
+    pub held: u64,
     /// The numbers of the entries of its heaviest chain.
     pub chain: List<u64>,
     /// A bar for each entry up to the first fault.
     pub bars: List<Mark>,
     /// The tasks that were made.
     pub tasks: List<TaskRow>,
+    /// The admissions that were held, in their order.
+    pub holds: List<Hold>,
 }
 
 /// A picture under way.
@@ -122,26 +127,30 @@ fn bars_of(
 }
 
 /// The picture of a run of the program under these limits that makes these moves: each entry begins as soon as all that lead to
-/// it have ended. Entries after the first fault have no bars, but their moves have to be legal too. If the moves are not all
-/// legal, it returns the number of the first that is not, counted from 1, and why it is not.
+/// it, or free it, have ended. Entries after the first fault have no bars, but their moves have to be legal too. If the moves are
+/// not all legal, it returns the number of the first that is not, counted from 1, and why it is not.
 pub fn draw(alloc: Global, p: &Prog, lim: Limits, moves: &[Move]) -> Result<Picture, ReplayFail>
-    ensures drawn { IfOk result (λ d. IsPicture p.now lim moves.now d.work d.span d.chain d.bars d.tasks) }
+    ensures drawn { IfOk result (λ d. IsPicture p.now lim moves.now d.work d.span d.held d.chain d.bars d.tasks d.holds) }
     ensures illegal { (n : ℕ) (why : Reason) → IsErrOf result (Illegal n why) → IsFirstIllegal p.now lim moves.now n why }
 {
     let Profile {
-        work,
-        span,
-        chain,
+        work, span, chain, ..
+    } = profile(alloc, p, lim, moves)?;
+    let HeldProfile {
+        span: held,
         starts,
         ends,
-    } = profile(alloc, p, lim, moves)?;
+        holds,
+    } = held_profile(alloc, p, lim, moves)?;
     let times = Times { starts, ends };
     let (bars, tasks) = bars_of(alloc, p, lim, moves, &times)?;
     Ok(Picture {
         work,
         span,
+        held,
         chain,
         bars,
         tasks,
+        holds,
     })
 }

@@ -10,7 +10,7 @@ ghost use Rattle.twe_advise.specs.inner.Given.{AdvisedBy};
 use crate::forms::advice_text;
 use crate::paces::paces_of;
 use crate::words::Form;
-use held_span::held_span;
+use held_span::held_profile;
 use run_advice::{Advice, advise};
 use seg_journal::{Limits, Move};
 use std::alloc::Global;
@@ -31,8 +31,8 @@ pub(crate) fn advice_answer(
     ensures illegal { (n : ℕ) (why : Why) → IsErrOf result (Illegal n why) → IsFirstIllegal p.now lim moves.now n why }
 {
     let advice = advise(alloc, p, lim, moves)?;
-    let held = held_span(alloc, p, lim, moves)?;
-    let answer = advised_answer(alloc, form, p, &advice, held)?;
+    let held = held_profile(alloc, p, lim, moves)?;
+    let answer = advised_answer(alloc, form, p, &advice, held.span)?;
     Ok(answer)
 }
 

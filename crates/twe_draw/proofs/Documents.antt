@@ -4,6 +4,7 @@ use Rattle.std.specs.Prelude.{◌&&◌, codes, decimal, nat_lt}
 use Rattle.std.specs.List.{list_all}
 use Rattle.twe_program.specs.Program.{Program}
 use Rattle.twe_machine.specs.declared.state.TaskRow.{TaskRow}
+use Rattle.held_span.specs.declared.hold.Hold.{Hold}
 use Rattle.run_picture.specs.declared.bars.Mark.{Mark}
 use Rattle.row_choice.specs.Choice.{how_many}
 use Rattle.row_choice.specs.Rows.{rows_from}
@@ -13,10 +14,10 @@ use Rattle.svg_markup.specs.Shapes.{plain_box, title_element, words_at}
 use Rattle.svg_markup.proofs.Nest.{plain_box_nests, title_nests, words_nest}
 use Rattle.svg_markup.proofs.Values.{number_is_value}
 use Rattle.twe_draw.specs.declared.words.AxisKind.{AxisKind}
-use Rattle.twe_draw.specs.Head.{arrow_words, axis, axis_words, chain_colour, colour, deterministic_colour, entry_colours, head_key, legend, opening_words, picture_head, rows_left_out, rows_left_out_words, run_words, titles}
+use Rattle.twe_draw.specs.Head.{arrow_words, axis, axis_words, chain_colour, colour, deterministic_colour, entry_colours, head_key, held_colour, legend, opening_words, picture_head, rows_left_out, rows_left_out_words, run_words, titles}
 use Rattle.twe_draw.specs.Pages.{picture_shapes, picture_text}
 use Rattle.twe_draw.specs.Scale.{axis_of, picture_height}
-use Rattle.twe_draw.specs.Style.{arrow_tip, setting, style_words}
+use Rattle.twe_draw.specs.Style.{arrow_tip, hatching, setting, style_words}
 use Rattle.twe_draw.proofs.Nests.{either_nests, nothing_nests, shapes_nest}
 
 first_of : (a b : Bool) → (a && b) ≡ true → a ≡ true
@@ -66,11 +67,32 @@ tip_nests =
     (IsMarkup.empty (codes "path") tip_path refl refl))))
     line_nests
 
+abbrev hatch_attributes : List Attribute
+hatch_attributes =
+    valued (codes "id") (codes "hatch") ∷ valued (codes "width") (codes "6") ∷ valued (codes "height") (codes "6")
+    ∷ valued (codes "patternUnits") (codes "userSpaceOnUse") ∷ []
+
+abbrev stripes : List Attribute
+stripes = valued (codes "class") (codes "stripe") ∷ valued (codes "d") (codes "M-1 7L7 -1M-1 1L1 -1M5 7L7 5") ∷ []
+
+abbrev hatch_inside : List ℕ
+hatch_inside = codes "\n" ++ empty_element (codes "path") stripes
+
+hatch_nests : IsMarkup hatching
+hatch_nests =
+    IsMarkup.both (element (codes "defs") [] (element (codes "pattern") hatch_attributes hatch_inside)) (codes "\n")
+    (IsMarkup.around (codes "defs") [] (element (codes "pattern") hatch_attributes hatch_inside) refl refl
+    (IsMarkup.around (codes "pattern") hatch_attributes hatch_inside refl refl
+    (IsMarkup.both (codes "\n") (empty_element (codes "path") stripes) line_nests
+    (IsMarkup.empty (codes "path") stripes refl refl))))
+    line_nests
+
 setting_nests : IsMarkup setting
 unfolding setting
 setting_nests =
-    IsMarkup.both (element (codes "style") [] style_words ++ codes "\n") arrow_tip
-    (IsMarkup.both (element (codes "style") [] style_words) (codes "\n") style_nests line_nests) tip_nests
+    IsMarkup.both (element (codes "style") [] style_words ++ codes "\n") (arrow_tip ++ hatching)
+    (IsMarkup.both (element (codes "style") [] style_words) (codes "\n") style_nests line_nests)
+    (IsMarkup.both arrow_tip hatching tip_nests hatch_nests)
 
 colour_nests : (class : List ℕ) (left : ℕ) (words : List ℕ) → list_all is_value_byte class ≡ true
     → IsMarkup (colour class left words)
@@ -89,11 +111,12 @@ entry_colours_nest =
 legend_nests : IsMarkup legend
 unfolding legend
 legend_nests =
-    IsMarkup.both entry_colours (deterministic_colour ++ (chain_colour ++ arrow_words)) entry_colours_nest
-    (IsMarkup.both deterministic_colour (chain_colour ++ arrow_words)
+    IsMarkup.both entry_colours (deterministic_colour ++ (held_colour ++ (chain_colour ++ arrow_words))) entry_colours_nest
+    (IsMarkup.both deterministic_colour (held_colour ++ (chain_colour ++ arrow_words))
     (colour_nests (codes "deterministic") 226 (codes "segment of a deterministic task") refl)
-    (IsMarkup.both chain_colour arrow_words (colour_nests (codes "chain") 586 (codes "heaviest chain") refl)
-    (words_nest (codes "arrow: makes a task; dashed: gives a value") 726 64)))
+    (IsMarkup.both held_colour (chain_colour ++ arrow_words) (colour_nests (codes "held") 556 (codes "held") refl)
+    (IsMarkup.both chain_colour arrow_words (colour_nests (codes "chain") 626 (codes "heaviest chain") refl)
+    (words_nest (codes "arrow: makes a task; dashed: gives a value") 766 64))))
 
 left_out_nests : (tasks rows : ℕ) → IsMarkup (rows_left_out tasks rows)
 left_out_nests tasks rows =
@@ -140,15 +163,15 @@ whole h t s k x =
     ∙ ap (λ (l : List ℕ). codes "<svg xmlns='http://www.w3.org/2000/svg' width='1260' height='" ++ l)
     (from_the_height h t s k x)
 
-pub picture_is_document : (kind : AxisKind) (p : Program) (shown : List Bool) (work span : ℕ) (chain : List ℕ)
-    (bars : List Mark) (tasks : List TaskRow)
-    → IsDocument (codes "svg") (picture_text kind p shown work span chain bars tasks)
+pub picture_is_document : (kind : AxisKind) (p : Program) (shown : List Bool) (work span held : ℕ) (chain : List ℕ)
+    (bars : List Mark) (tasks : List TaskRow) (holds : List Hold)
+    → IsDocument (codes "svg") (picture_text kind p shown work span held chain bars tasks holds)
 unfolding picture_head
-picture_is_document kind p shown work span chain bars tasks =
+picture_is_document kind p shown work span held chain bars tasks holds =
     let height : List ℕ = decimal (picture_height (how_many shown)) in
-    let title : List ℕ = titles (run_words work span) in
+    let title : List ℕ = titles (run_words work span held) in
     let key : List ℕ = head_key kind (length tasks) (how_many shown) in
-    let shapes : List ℕ = picture_shapes p (axis_of kind span bars) (rows_from 0 shown) chain bars tasks in
+    let shapes : List ℕ = picture_shapes p (axis_of kind held bars) (rows_from 0 shown) chain bars tasks holds in
     record {
       attributes = size height;
       inside = codes "\n" ++ (title ++ (setting ++ (key ++ shapes)));
@@ -157,8 +180,8 @@ picture_is_document kind p shown work span chain bars tasks =
       attributes_are = λ i. number_is_value (picture_height (how_many shown)) i && true;
       nests =
           IsMarkup.both (codes "\n") (title ++ (setting ++ (key ++ shapes))) line_nests
-          (IsMarkup.both title (setting ++ (key ++ shapes)) (titles_nest (run_words work span))
+          (IsMarkup.both title (setting ++ (key ++ shapes)) (titles_nest (run_words work span held))
           (IsMarkup.both setting (key ++ shapes) setting_nests
           (IsMarkup.both key shapes (key_nests kind (length tasks) (how_many shown))
-          (shapes_nest p (axis_of kind span bars) (rows_from 0 shown) chain bars tasks))));
+          (shapes_nest p (axis_of kind held bars) (rows_from 0 shown) chain bars tasks holds))));
     }

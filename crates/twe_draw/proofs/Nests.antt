@@ -1,4 +1,4 @@
--- The tags of what stands in a picture nest: rows, bars, arrows and the heaviest chain.
+-- The tags of what stands in a picture nest: rows, holds, bars, arrows and the heaviest chain.
 use Rattle.std.proofs.Common.{◌≡◌, ◌++◌, ℕ, Bool, true, false, List, [], ◌∷◌, Option, None, Some, refl, sym, subst}
 use Rattle.std.specs.Prelude.{◌==◌, ◌&&◌, codes, if◌then◌else◌, nat_lt, option_and_then, slice_get}
 use Rattle.std.specs.List.{flat_map, list_all}
@@ -10,16 +10,18 @@ use Rattle.seg_journal.specs.declared.moves.Kind.TheVariants.{Admit, Run}
 use Rattle.twe_program.specs.Program.{Program}
 use Rattle.twe_machine.specs.declared.state.TaskRow.{TaskRow}
 use Rattle.run_texts.specs.TaskLabels.{task_call}
+use Rattle.held_span.specs.declared.hold.Hold.{Hold}
 use Rattle.run_picture.specs.declared.bars.Mark.{Mark}
 use Rattle.svg_markup.specs.Markup.{IsMarkup, IsText, is_value_byte}
 use Rattle.svg_markup.specs.Shapes.{row_line, titled_box, upright, words_at}
 use Rattle.svg_markup.proofs.Nest.{plain_box_nests, row_line_nests, titled_box_nests, upright_nests, words_nest}
 use Rattle.twe_draw.specs.declared.scale.Axis.{Axis}
-use Rattle.twe_draw.specs.Scale.{bar_begin, bar_end, row_bottom, row_top, time_column, time_width}
-use Rattle.twe_draw.specs.Labels.{bar_title, wait_title}
+use Rattle.twe_draw.specs.Scale.{bar_begin, bar_end, held_begin, row_bottom, row_top, time_column, time_width}
+use Rattle.twe_draw.specs.Labels.{bar_title, held_title, wait_title}
 use Rattle.twe_draw.specs.Shown.{row_at}
 use Rattle.twe_draw.specs.Arrows.{arrow, arrows_placed, arrows_shown, made_arrow, made_placed, taken_arrow, taken_placed}
 use Rattle.twe_draw.specs.Bars.{bar_placed, bar_shape, bar_shown, class_of, is_deterministic_row, is_waiting, outline, outline_found, outline_placed, row_placed, row_shown, wait_shape, wait_since}
+use Rattle.twe_draw.specs.Held.{held_found, held_placed, held_shown}
 use Rattle.twe_draw.specs.Pages.{picture_shapes}
 
 pub nothing_nests : IsMarkup []
@@ -120,17 +122,41 @@ outline_nests : (rows : List (Option ℕ)) (axis : Axis) (bar : Option Mark) →
 outline_nests rows axis None = nothing_nests
 outline_nests rows axis (Some bar) = outline_placed_nests axis bar (row_at rows bar.task)
 
--- the tags of all of it nest
-pub shapes_nest : (p : Program) (axis : Axis) (rows : List (Option ℕ)) (chain : List ℕ) (bars : List Mark) (tasks : List TaskRow)
-    → IsMarkup (picture_shapes p axis rows chain bars tasks)
-shapes_nest p axis rows chain bars tasks =
-    IsMarkup.both (flat_map (row_shown p rows) tasks)
-    (flat_map (bar_shown p tasks bars rows axis) bars
-    ++ (flat_map (arrows_shown bars rows axis) bars ++ flat_map (outline bars rows axis) chain))
-    (all_nest (row_shown p rows) tasks (λ task. row_nests p task (row_at rows task.frame.task)))
-    (IsMarkup.both (flat_map (bar_shown p tasks bars rows axis) bars)
+held_nests : (p : Program) (tasks : List TaskRow) (axis : Axis) (hold : Hold) (bar : Mark) (row : Option ℕ)
+    → IsMarkup (held_placed p tasks axis hold bar row)
+held_nests p tasks axis hold bar None = nothing_nests
+held_nests p tasks axis hold bar (Some row) =
+    titled_box_nests (codes "held") (held_title p tasks hold) (time_column axis.length (held_begin axis.kind bar hold))
+    (row_top row) (time_width axis.length (held_begin axis.kind bar hold) (bar_begin axis.kind bar)) refl
+
+held_found_nests : (p : Program) (tasks : List TaskRow) (rows : List (Option ℕ)) (axis : Axis) (hold : Hold) (bar : Option Mark)
+    → IsMarkup (held_found p tasks rows axis hold bar)
+held_found_nests p tasks rows axis hold None = nothing_nests
+held_found_nests p tasks rows axis hold (Some bar) = held_nests p tasks axis hold bar (row_at rows hold.task)
+
+-- what stands above the rows and the holds
+abbrev upper_shapes : Program → Axis → List (Option ℕ) → List ℕ → List Mark → List TaskRow → List ℕ
+upper_shapes p axis rows chain bars tasks =
+    flat_map (bar_shown p tasks bars rows axis) bars
+    ++ (flat_map (arrows_shown bars rows axis) bars ++ flat_map (outline bars rows axis) chain)
+
+upper_nest : (p : Program) (axis : Axis) (rows : List (Option ℕ)) (chain : List ℕ) (bars : List Mark) (tasks : List TaskRow)
+    → IsMarkup (upper_shapes p axis rows chain bars tasks)
+upper_nest p axis rows chain bars tasks =
+    IsMarkup.both (flat_map (bar_shown p tasks bars rows axis) bars)
     (flat_map (arrows_shown bars rows axis) bars ++ flat_map (outline bars rows axis) chain)
     (all_nest (bar_shown p tasks bars rows axis) bars (λ bar. placed_nests p tasks bars axis bar (row_at rows bar.task)))
     (IsMarkup.both (flat_map (arrows_shown bars rows axis) bars) (flat_map (outline bars rows axis) chain)
     (all_nest (arrows_shown bars rows axis) bars (λ bar. arrows_nest bars rows axis bar (row_at rows bar.task)))
-    (all_nest (outline bars rows axis) chain (λ number. outline_nests rows axis (slice_get bars number)))))
+    (all_nest (outline bars rows axis) chain (λ number. outline_nests rows axis (slice_get bars number))))
+
+-- the tags of all of it nest
+pub shapes_nest : (p : Program) (axis : Axis) (rows : List (Option ℕ)) (chain : List ℕ) (bars : List Mark) (tasks : List TaskRow)
+    (holds : List Hold) → IsMarkup (picture_shapes p axis rows chain bars tasks holds)
+shapes_nest p axis rows chain bars tasks holds =
+    IsMarkup.both (flat_map (row_shown p rows) tasks)
+    (flat_map (held_shown p tasks bars rows axis) holds ++ upper_shapes p axis rows chain bars tasks)
+    (all_nest (row_shown p rows) tasks (λ task. row_nests p task (row_at rows task.frame.task)))
+    (IsMarkup.both (flat_map (held_shown p tasks bars rows axis) holds) (upper_shapes p axis rows chain bars tasks)
+    (all_nest (held_shown p tasks bars rows axis) holds (λ hold. held_found_nests p tasks rows axis hold (slice_get bars hold.entry)))
+    (upper_nest p axis rows chain bars tasks))

@@ -11,6 +11,7 @@ use Rattle.twe_io.specs.Answers.{IsAnswered, on_out}
 use Rattle.twe_io.specs.declared.answer.Answer.{Answer}
 use Rattle.twe_io.specs.declared.status.Status.{Status}
 use Rattle.twe_io.specs.declared.status.Status.TheVariants.{Done}
+use Rattle.held_span.specs.declared.hold.Hold.{Hold}
 use Rattle.run_picture.specs.Pictures.{IsPicture}
 use Rattle.run_picture.specs.declared.bars.Mark.{Mark}
 use Rattle.twe_draw.specs.declared.words.Drawing.{Drawing}
@@ -20,9 +21,9 @@ use Rattle.twe_draw.specs.Words.{draw_usage_text, asked_drawing}
 -- The answer, drawn so, to legal moves of an accepted program under these limits.
 pub data PictureGiven (drawing : Drawing) (p : Program) (lim : Bounds) (moves : List Move) : Answer → Type 0 where
   -- the run is drawn
-  drawn : (work span : ℕ) (chain : List ℕ) (bars : List Mark) (tasks : List TaskRow) (text : List ℕ)
-      → IsPicture p lim moves work span chain bars tasks
-      → IsDrawing drawing p work span chain bars tasks text
+  drawn : (work span held : ℕ) (chain : List ℕ) (bars : List Mark) (tasks : List TaskRow) (holds : List Hold) (text : List ℕ)
+      → IsPicture p lim moves work span held chain bars tasks holds
+      → IsDrawing drawing p work span held chain bars tasks holds text
       → PictureGiven drawing p lim moves (on_out Done text)
 
 -- the answer to an input, drawn so: to the text of a program, and after the first line that is exactly `%%` the text of a

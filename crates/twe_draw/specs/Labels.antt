@@ -6,6 +6,7 @@ use Rattle.twe_program.specs.Program.{Program}
 use Rattle.twe_machine.specs.declared.state.TaskRow.{TaskRow}
 use Rattle.text_meaning.specs.EffectTexts.{effects_text}
 use Rattle.run_texts.specs.TaskLabels.{decl_place_text, task_call}
+use Rattle.held_span.specs.declared.hold.Hold.{Hold}
 use Rattle.run_picture.specs.declared.bars.Mark.{Mark}
 use Rattle.twe_draw.specs.Numbers.{with_number}
 
@@ -53,3 +54,10 @@ awaited_words p tasks _ = []
 -- what a grey box tells after this bar: its task, and whom that waits for
 abbrev pub wait_title : Program → List TaskRow → Mark → List ℕ
 wait_title p tasks bar = label_found p (slice_get tasks bar.task) ++ awaited_words p tasks bar.end
+
+-- what a hatched box tells: the task that was held, by whom, and what freed it, as `4 inc(2): is held by 3 inc(1), until entry 7`
+abbrev pub held_title : Program → List TaskRow → Hold → List ℕ
+held_title p tasks hold =
+    label_found p (slice_get tasks hold.task)
+    ++ ((codes ": is held by " ++ label_found p (slice_get tasks hold.holder))
+    ++ with_number (codes ", until entry ") hold.freed_by)

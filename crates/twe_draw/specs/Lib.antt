@@ -8,6 +8,7 @@ pub mod Bars
 pub mod Marks
 pub mod Arrows
 pub mod Head
+pub mod Held
 pub mod Trace
 pub mod Pages
 pub mod Answers

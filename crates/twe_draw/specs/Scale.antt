@@ -1,15 +1,16 @@
 -- Where things stand in a picture, in pixels from its left and its top. Each task that is shown has a row, and time goes to the
 -- right.
-use Rattle.std.specs.Prelude.{◌+◌, ◌-◌, ◌*◌, ◌/◌, ℕ, List, length, max, min}
+use Rattle.std.specs.Prelude.{◌+◌, ◌-◌, ◌*◌, ◌/◌, ℕ, List, Option, None, Some, length, max, min}
+use Rattle.held_span.specs.declared.hold.Hold.{Hold}
 use Rattle.run_picture.specs.declared.bars.Mark.{Mark}
 use Rattle.twe_draw.specs.declared.scale.Axis.{Axis}
 use Rattle.twe_draw.specs.declared.words.AxisKind.{AxisKind}
 use Rattle.twe_draw.specs.declared.words.AxisKind.TheVariants.{Time, Order}
 
--- the axis of a picture: it is as long as the span, or has a column for each entry
+-- the axis of a picture: it is as long as the held span, or has a column for each entry
 abbrev pub axis_of : AxisKind → ℕ → List Mark → Axis
-axis_of Time span bars = record { kind = Time; length = span }
-axis_of Order span bars = record { kind = Order; length = length bars }
+axis_of Time held bars = record { kind = Time; length = held }
+axis_of Order held bars = record { kind = Order; length = length bars }
 
 -- when the entry of a bar begins, or its column
 abbrev pub bar_begin : AxisKind → Mark → ℕ
@@ -20,6 +21,16 @@ bar_begin Order bar = bar.number
 abbrev pub bar_end : AxisKind → Mark → ℕ
 bar_end Time bar = bar.ends
 bar_end Order bar = bar.number + 1
+
+-- the column after that of an entry, if there is one, and else the first
+abbrev pub column_after : Option ℕ → ℕ
+column_after None = 0
+column_after (Some number) = number + 1
+
+-- since when the admission of a bar was held: the time of the hold before it, or the column after that of the entry that made its task
+abbrev pub held_begin : AxisKind → Mark → Hold → ℕ
+held_begin Time bar hold = bar.begins - hold.time
+held_begin Order bar hold = column_after bar.previous
 
 -- where a time stands in a picture of this length, which is 1000 pixels wide; later times stand at its end
 unfoldable pub time_column : ℕ → ℕ → ℕ

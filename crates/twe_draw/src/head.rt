@@ -1,6 +1,6 @@
 //! What stands above the rows of a picture.
 ghost use Rattle.std.specs.Prelude.{◌≡◌, ◌++◌, ◌<◌, IfOk, OnOk};
-ghost use Rattle.twe_draw.specs.Head.{arrow_words, axis, axis_words, chain_colour, colour, deterministic_colour, entry_colours, head_key, head_top, hundredths, rows_left_out, rows_left_out_words, legend, opening, opening_words, parallelism_after, parallelism_words, picture_head, run_words, titles, total_words};
+ghost use Rattle.twe_draw.specs.Head.{arrow_words, axis, axis_words, chain_colour, colour, deterministic_colour, entry_colours, head_key, head_top, held_colour, hundredths, rows_left_out, rows_left_out_words, legend, opening, opening_words, parallelism_after, parallelism_words, picture_head, run_words, titles, total_words};
 
 use crate::numbers::{push_number, push_wide};
 use crate::scale::picture_height;
@@ -29,12 +29,13 @@ fn push_parallelism(text: &mut Bytes, words: &[u8], work: u64, span: u64) -> Res
     push_hundredths(text, parallelism_of(work, span))
 }
 
-/// Appends the work and the span.
-fn push_total_words(text: &mut Bytes, work: u64, span: u64) -> Result<(), Memory>
-    ensures { OnOk result (text.new ≡ text.old ++ total_words work span) }
+/// Appends the work, the span and the held span.
+fn push_total_words(text: &mut Bytes, work: u64, span: u64, held: u64) -> Result<(), Memory>
+    ensures { OnOk result (text.new ≡ text.old ++ total_words work span held) }
 {
     push_number(text, b"work ", work)?;
-    push_number(text, b", span ", span)
+    push_number(text, b", span ", span)?;
+    push_number(text, b", held span ", held)
 }
 
 /// Appends the parallelism in words.
@@ -44,12 +45,12 @@ fn push_parallelism_words(text: &mut Bytes, work: u64, span: u64) -> Result<(), 
     push_parallelism(text, b", parallelism ", work, span)
 }
 
-/// The work, the span and the parallelism.
-fn run_words(alloc: Global, work: u64, span: u64) -> Result<Bytes, Memory>
-    ensures { IfOk result (λ words. words ≡ run_words work span) }
+/// The work, the span, the held span and the parallelism.
+fn run_words(alloc: Global, work: u64, span: u64, held: u64) -> Result<Bytes, Memory>
+    ensures { IfOk result (λ words. words ≡ run_words work span held) }
 {
     let mut words = Bytes::new(alloc);
-    push_total_words(&mut words, work, span)?;
+    push_total_words(&mut words, work, span, held)?;
     push_parallelism_words(&mut words, work, span)?;
     Ok(words)
 }
@@ -81,22 +82,33 @@ fn push_titles(text: &mut Bytes, words: &[u8]) -> Result<(), Memory>
 }
 
 /// What the axis means.
-fn axis_words<'a>(kind: AxisKind) -> &'a [u8]
-    ensures { result.now ≡ axis_words kind }
+fn axis_words(alloc: Global, kind: AxisKind) -> Result<Bytes, Memory>
+    ensures { IfOk result (λ words. words ≡ axis_words kind) }
 {
+    let mut words = Bytes::new(alloc);
     match kind {
         AxisKind::Time => {
-            b"Time is virtual: an entry takes as long as it weighs, and begins when all that leads to it has ended."
+            words.push_all(
+                b"Time is virtual: an entry takes as long as it weighs, and begins when all that leads to it has ended,",
+            )?;
+            words.push_all(
+                b" for an admission also what freed it. The axis ends at the held span.",
+            )?;
+            Ok(words)
         }
-        AxisKind::Order => b"Each entry of the journal has a column, in their order.",
+        AxisKind::Order => {
+            words.push_all(b"Each entry of the journal has a column, in their order.")?;
+            Ok(words)
+        }
     }
 }
 
 /// Appends the words below the title.
-fn push_axis(text: &mut Bytes, kind: AxisKind) -> Result<(), Memory>
+fn push_axis(text: &mut Bytes, alloc: Global, kind: AxisKind) -> Result<(), Memory>
     ensures { OnOk result (text.new ≡ text.old ++ axis kind) }
 {
-    push_words_at(text, 6, 40, axis_words(kind))
+    let words = axis_words(alloc, kind)?;
+    push_words_at(text, 6, 40, words.as_slice())
 }
 
 /// Appends a colour and what it means.
@@ -116,6 +128,13 @@ fn push_entry_colours(text: &mut Bytes) -> Result<(), Memory>
     push_colour(text, b"waits", 486, b"waits")
 }
 
+/// Appends the colour of admissions that were held.
+fn push_held_colour(text: &mut Bytes) -> Result<(), Memory>
+    ensures { OnOk result (text.new ≡ text.old ++ held_colour) }
+{
+    push_colour(text, b"held", 556, b"held")
+}
+
 /// Appends the colour of deterministic tasks.
 fn push_deterministic_colour(text: &mut Bytes) -> Result<(), Memory>
     ensures { OnOk result (text.new ≡ text.old ++ deterministic_colour) }
@@ -132,14 +151,14 @@ fn push_deterministic_colour(text: &mut Bytes) -> Result<(), Memory>
 fn push_chain_colour(text: &mut Bytes) -> Result<(), Memory>
     ensures { OnOk result (text.new ≡ text.old ++ chain_colour) }
 {
-    push_colour(text, b"chain", 586, b"heaviest chain")
+    push_colour(text, b"chain", 626, b"heaviest chain")
 }
 
 /// Appends what the arrows mean.
 fn push_arrow_words(text: &mut Bytes) -> Result<(), Memory>
     ensures { OnOk result (text.new ≡ text.old ++ arrow_words) }
 {
-    push_words_at(text, 726, 64, b"arrow: makes a task; dashed: gives a value")
+    push_words_at(text, 766, 64, b"arrow: makes a task; dashed: gives a value")
 }
 
 /// Appends what the colours and the arrows mean.
@@ -149,6 +168,7 @@ fn push_legend(text: &mut Bytes) -> Result<(), Memory>
 {
     push_entry_colours(text)?;
     push_deterministic_colour(text)?;
+    push_held_colour(text)?;
     push_chain_colour(text)?;
     push_arrow_words(text)
 }
@@ -197,7 +217,7 @@ fn push_head_key(
 ) -> Result<(), Memory>
     ensures { OnOk result (text.new ≡ text.old ++ head_key kind tasks rows) }
 {
-    push_axis(text, kind)?;
+    push_axis(text, alloc, kind)?;
     push_legend(text)?;
     push_rows_left_out(text, alloc, tasks, rows)
 }
@@ -212,10 +232,11 @@ pub(crate) fn push_head(
     rows: usize,
     work: u64,
     span: u64,
+    held: u64,
 ) -> Result<(), Memory>
-    ensures { OnOk result (text.new ≡ text.old ++ picture_head kind tasks rows work span) }
+    ensures { OnOk result (text.new ≡ text.old ++ picture_head kind tasks rows work span held) }
 {
-    let words = run_words(alloc, work, span)?;
+    let words = run_words(alloc, work, span, held)?;
     push_head_top(text, rows, words.as_slice())?;
     push_setting(text)?;
     push_head_key(text, alloc, kind, tasks, rows)

@@ -1,9 +1,10 @@
 //! What is written of tasks and of what they did.
 ghost use Rattle.std.specs.Prelude.{◌≡◌, ◌++◌, IfOk, OnOk, slice_get};
 ghost use Rattle.run_texts.specs.TaskLabels.{task_call};
-ghost use Rattle.twe_draw.specs.Labels.{awaited_words, bar_title, label_found, wait_title, details_found, end_words, entry_words, task_details};
+ghost use Rattle.twe_draw.specs.Labels.{awaited_words, bar_title, label_found, wait_title, details_found, end_words, entry_words, held_title, task_details};
 
 use crate::numbers::{push_number, push_small};
+use held_span::Hold;
 use run_picture::Mark;
 use run_texts::{push_decl_place, push_task_call};
 use seg_journal::End;
@@ -125,5 +126,21 @@ pub(crate) fn wait_title(
     let mut title = Bytes::new(alloc);
     push_label_of(&mut title, p, tasks, bar.task)?;
     push_awaited(&mut title, p, tasks, bar.end)?;
+    Ok(title)
+}
+
+/// What a hatched box tells: the task that was held, by whom, and what freed it.
+pub(crate) fn held_title(
+    alloc: Global,
+    p: &Prog,
+    tasks: &[TaskRow],
+    hold: &Hold,
+) -> Result<Bytes, Memory>
+    ensures { IfOk result (λ title. title ≡ held_title p.now tasks.now hold.now) }
+{
+    let mut title = Bytes::new(alloc);
+    push_label_of(&mut title, p, tasks, hold.task)?;
+    push_label_after(&mut title, b": is held by ", p, tasks, hold.holder)?;
+    push_number(&mut title, b", until entry ", hold.freed_by)?;
     Ok(title)
 }

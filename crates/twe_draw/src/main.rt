@@ -5,6 +5,7 @@
 mod arrows;
 mod bars;
 mod head;
+mod held;
 mod labels;
 mod laws;
 mod numbers;

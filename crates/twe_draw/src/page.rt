@@ -5,6 +5,7 @@ ghost use Rattle.twe_draw.specs.Pages.{IsDrawing, IsPictureText, picture_shapes,
 use crate::arrows::push_arrows;
 use crate::bars::{push_bars, push_outlines, push_rows};
 use crate::head::push_head;
+use crate::held::push_holds;
 use crate::scale::{Axis, axis_of};
 use crate::shown::shown_tasks;
 use crate::trace::trace_text;
@@ -15,7 +16,7 @@ use std::alloc::Global;
 use twe_base::{Bytes, Memory};
 use twe_program::Prog;
 
-/// Appends what stands in a picture: rows, bars, arrows, and the heaviest chain.
+/// Appends what stands in a picture: rows, holds, bars, arrows, and the heaviest chain.
 fn push_shapes(
     text: &mut Bytes,
     alloc: Global,
@@ -25,11 +26,21 @@ fn push_shapes(
     picture: &Picture,
 ) -> Result<(), Memory>
     ensures { OnOk result (text.new ≡ text.old
-        ++ picture_shapes p.now axis rows.now picture.now.chain picture.now.bars picture.now.tasks) }
+        ++ picture_shapes p.now axis rows.now picture.now.chain picture.now.bars picture.now.tasks picture.now.holds) }
 {
     let bars = picture.bars.as_slice();
     let tasks = picture.tasks.as_slice();
     push_rows(text, alloc, p, rows, tasks)?;
+    push_holds(
+        text,
+        alloc,
+        p,
+        tasks,
+        bars,
+        rows,
+        axis,
+        picture.holds.as_slice(),
+    )?;
     push_bars(text, alloc, p, tasks, bars, rows, axis)?;
     push_arrows(text, alloc, bars, rows, axis)?;
     push_outlines(text, bars, rows, axis, picture.chain.as_slice())
@@ -44,10 +55,10 @@ fn text_of_picture(
     picture: &Picture,
 ) -> Result<Bytes, Memory>
     ensures { IfOk result (λ text. text ≡ picture_text kind p.now shown.now picture.now.work picture.now.span
-        picture.now.chain picture.now.bars picture.now.tasks) }
+        picture.now.held picture.now.chain picture.now.bars picture.now.tasks picture.now.holds) }
 {
     let mut text = Bytes::new(alloc);
-    let axis = axis_of(kind, picture.span, picture.bars.as_slice());
+    let axis = axis_of(kind, picture.held, picture.bars.as_slice());
     let rows = rows_of(alloc, shown)?;
     push_head(
         &mut text,
@@ -57,6 +68,7 @@ fn text_of_picture(
         how_many(shown),
         picture.work,
         picture.span,
+        picture.held,
     )?;
     push_shapes(&mut text, alloc, p, axis, rows.as_slice(), picture)?;
     text.push_all(b"</svg>\n")?;
@@ -65,8 +77,8 @@ fn text_of_picture(
 
 /// The picture of a run, in this kind.
 fn picture_text(alloc: Global, kind: AxisKind, p: &Prog, picture: &Picture) -> Result<Bytes, Memory>
-    ensures { IfOk result (IsPictureText kind p.now picture.now.work picture.now.span picture.now.chain picture.now.bars
-        picture.now.tasks) }
+    ensures { IfOk result (IsPictureText kind p.now picture.now.work picture.now.span picture.now.held picture.now.chain
+        picture.now.bars picture.now.tasks picture.now.holds) }
 {
     let shown = shown_tasks(
         alloc,
@@ -84,8 +96,8 @@ pub(crate) fn drawing_text(
     p: &Prog,
     picture: &Picture,
 ) -> Result<Bytes, Memory>
-    ensures { IfOk result (IsDrawing drawing p.now picture.now.work picture.now.span picture.now.chain picture.now.bars
-        picture.now.tasks) }
+    ensures { IfOk result (IsDrawing drawing p.now picture.now.work picture.now.span picture.now.held picture.now.chain
+        picture.now.bars picture.now.tasks picture.now.holds) }
 {
     match drawing {
         Drawing::Picture(kind) => picture_text(alloc, kind, p, picture),

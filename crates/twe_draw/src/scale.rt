@@ -3,6 +3,7 @@ ghost use Rattle.std.specs.Prelude.{◌≡◌};
 ghost use Rattle.twe_draw.specs.Scale as scale;
 
 use crate::words::AxisKind;
+use held_span::Hold;
 use run_picture::Mark;
 
 /// The axis of a picture, from its left to its right.
@@ -14,12 +15,12 @@ pub struct Axis {
     pub length: u64,
 }
 
-/// The axis of a picture: it is as long as the span, or has a column for each entry.
-pub(crate) fn axis_of(kind: AxisKind, span: u64, bars: &[Mark]) -> Axis
-    ensures { result ≡ scale.axis_of kind span bars.now }
+/// The axis of a picture: it is as long as the held span, or has a column for each entry.
+pub(crate) fn axis_of(kind: AxisKind, held: u64, bars: &[Mark]) -> Axis
+    ensures { result ≡ scale.axis_of kind held bars.now }
 {
     let length = match kind {
-        AxisKind::Time => span,
+        AxisKind::Time => held,
         AxisKind::Order => bars.len() as u64,
     };
     Axis { kind, length }
@@ -42,6 +43,26 @@ pub(crate) fn bar_end(kind: AxisKind, bar: &Mark) -> u128
     match kind {
         AxisKind::Time => u128::from(bar.ends),
         AxisKind::Order => u128::from(bar.number) + 1,
+    }
+}
+
+/// The column after that of an entry, if there is one, and else the first.
+fn column_after(number: Option<u64>) -> u128
+    ensures { result ≡ scale.column_after number }
+{
+    match number {
+        None => 0,
+        Some(number) => u128::from(number) + 1,
+    }
+}
+
+/// Since when the admission of a bar was held, or the column after that of the entry that made its task.
+pub(crate) fn held_begin(kind: AxisKind, bar: &Mark, hold: &Hold) -> u128
+    ensures { result ≡ scale.held_begin kind bar.now hold.now }
+{
+    match kind {
+        AxisKind::Time => u128::from(bar.begins.saturating_sub(hold.time)),
+        AxisKind::Order => column_after(bar.previous),
     }
 }
 

@@ -1,6 +1,6 @@
 //! What is the same in each picture: its colours, and the tip of its arrows.
 ghost use Rattle.std.specs.Prelude.{◌≡◌, ◌++◌, OnOk};
-ghost use Rattle.twe_draw.specs.Style.{arrow_tip, chain_style, dark_entry_style, dark_page_style, dark_style, entry_style, light_style, line_style, page_style, setting, style_words, tip_opening, tip_shape};
+ghost use Rattle.twe_draw.specs.Style.{arrow_tip, chain_style, dark_entry_style, hatch_opening, hatch_stripes, hatching, held_style, dark_page_style, dark_style, entry_style, light_style, line_style, page_style, setting, style_words, tip_opening, tip_shape};
 
 use twe_base::{Bytes, Memory};
 
@@ -38,6 +38,15 @@ fn push_chain_style(text: &mut Bytes) -> Result<(), Memory>
     text.push_all(b".chain{fill:none;stroke:#d55e00;stroke-width:3;pointer-events:none}\n")
 }
 
+/// Appends what was held: hatched, with a border.
+fn push_held_style(text: &mut Bytes) -> Result<(), Memory>
+    ensures { OnOk result (text.new ≡ text.old ++ held_style) }
+{
+    text.push_all(
+        b".held{fill:url(#hatch);stroke:#cc79a7;stroke-width:1}.stripe{stroke:#cc79a7;stroke-width:2}\n",
+    )
+}
+
 /// Appends what differs in the dark: the background, the words and the boxes.
 fn push_dark_page_style(text: &mut Bytes) -> Result<(), Memory>
     ensures { OnOk result (text.new ≡ text.old ++ dark_page_style) }
@@ -70,6 +79,24 @@ fn push_tip_shape(text: &mut Bytes) -> Result<(), Memory>
     text.push_all(b"<path fill='#777' d='M0 0L8 4L0 8z'/></marker></defs>\n")
 }
 
+/// Appends the hatching: its size.
+fn push_hatch_opening(text: &mut Bytes) -> Result<(), Memory>
+    ensures { OnOk result (text.new ≡ text.old ++ hatch_opening) }
+{
+    text.push_all(
+        b"<defs><pattern id='hatch' width='6' height='6' patternUnits='userSpaceOnUse'>\n",
+    )
+}
+
+/// Appends the hatching: its stripes.
+fn push_hatch_stripes(text: &mut Bytes) -> Result<(), Memory>
+    ensures { OnOk result (text.new ≡ text.old ++ hatch_stripes) }
+{
+    text.push_all(
+        b"<path class='stripe' d='M-1 7L7 -1M-1 1L1 -1M5 7L7 5'/></pattern></defs>\n",
+    )
+}
+
 /// Appends the colours.
 fn push_light_style(text: &mut Bytes) -> Result<(), Memory>
     ensures { OnOk result (text.new ≡ text.old ++ light_style) }
@@ -77,7 +104,8 @@ fn push_light_style(text: &mut Bytes) -> Result<(), Memory>
     push_page_style(text)?;
     push_entry_style(text)?;
     push_line_style(text)?;
-    push_chain_style(text)
+    push_chain_style(text)?;
+    push_held_style(text)
 }
 
 /// Appends what differs in the dark.
@@ -104,6 +132,14 @@ fn push_arrow_tip(text: &mut Bytes) -> Result<(), Memory>
     push_tip_shape(text)
 }
 
+/// Appends the hatching.
+fn push_hatching(text: &mut Bytes) -> Result<(), Memory>
+    ensures { OnOk result (text.new ≡ text.old ++ hatching) }
+{
+    push_hatch_opening(text)?;
+    push_hatch_stripes(text)
+}
+
 /// Appends what is the same in each picture.
 #[tactic(auto, unfolding(crate::specs::Style::setting))]
 pub(crate) fn push_setting(text: &mut Bytes) -> Result<(), Memory>
@@ -112,5 +148,6 @@ pub(crate) fn push_setting(text: &mut Bytes) -> Result<(), Memory>
     text.push_all(b"<style>")?;
     push_style_words(text)?;
     text.push_all(b"</style>\n")?;
-    push_arrow_tip(text)
+    push_arrow_tip(text)?;
+    push_hatching(text)
 }

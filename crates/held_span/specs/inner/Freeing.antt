@@ -46,29 +46,31 @@ abbrev pub Walks : Ways → Ways → Option ℕ → ℕ → List ℕ → Type 0
 Walks old new None t walk = (walk ≡ []) × (new ≡ old)
 Walks old new (Some s) t walk = IsWalk old s t walk × (new ≡ record { makers = old.makers; firsts = slice_set old.firsts t s })
 
--- These keys are added for the admission of t: those of the marks that it sees, and those of the tasks that the walk passes.
-pub record IsFreed (marks : EffectMarks) (holders : Holders) (old new : Ways) (t : ℕ) (before after : List Key) : Type 0 where
-  pub low : Option ℕ
+-- These keys are added for the admission of t, of which this is the lowest holder: those of the marks that it sees, and those of the
+-- tasks that the walk passes.
+pub record IsFreed (marks : EffectMarks) (holders : Holders) (old new : Ways) (t : ℕ) (before after : List Key) (low : Option ℕ)
+    : Type 0 where
   pub lowest : IsLowestOf (HoldsOne holders (seen_by marks t)) low
   pub walk : List ℕ
   pub walks : Walks old new low t walk
   pub keys : after ≡ (before ++ mark_keys marks (seen_by marks t)) ++ map (λ task. Task task) walk
 
--- what is noted of a move of t with this end, after which the state is this
-abbrev pub IsNotedBy : EffectMarks → State → ℕ → Freeing → Freeing → EntryKeys → EntryKeys → End → Type 0
-IsNotedBy marks st t old new before after ends.Admitted =
-    IsFreed marks old.holders old.ways new.ways t before.asks after.asks × (after.gives ≡ before.gives)
+-- what is noted of a move of t with this end, after which the state is this, and of which this is the lowest holder if it is an
+-- admission
+abbrev pub IsNotedBy : EffectMarks → State → ℕ → Option ℕ → Freeing → Freeing → EntryKeys → EntryKeys → End → Type 0
+IsNotedBy marks st t low old new before after ends.Admitted =
+    IsFreed marks old.holders old.ways new.ways t before.asks after.asks low × (after.gives ≡ before.gives)
     × HaveEntered old.holders new.holders t (left_by marks t)
-IsNotedBy marks st t old new before after (ends.Made child) =
+IsNotedBy marks st t low old new before after (ends.Made child) =
     (after.asks ≡ before.asks) × (after.gives ≡ before.gives) × (new.ways ≡ entered old.ways t)
     × EnteredIf (link_of st.links child).parent old.holders new.holders child (left_by marks child)
-IsNotedBy marks st t old new before after (ends.Waits on) =
+IsNotedBy marks st t low old new before after (ends.Waits on) =
     (after.asks ≡ before.asks) × (after.gives ≡ before.gives) × (new ≡ old)
-IsNotedBy marks st t old new before after (ends.Joins on) =
+IsNotedBy marks st t low old new before after (ends.Joins on) =
     (after.asks ≡ before.asks) × (after.gives ≡ before.gives) × (new ≡ old)
-IsNotedBy marks st t old new before after (ends.Done value) =
+IsNotedBy marks st t low old new before after (ends.Done value) =
     (after.asks ≡ before.asks) × (after.gives ≡ before.gives ++ mark_keys marks (left_by marks t)) × (new.ways ≡ old.ways)
     × HaveLeft old.holders new.holders t (left_by marks t)
-IsNotedBy marks st t old new before after (ends.Fault kind place) =
+IsNotedBy marks st t low old new before after (ends.Fault kind place) =
     (after.asks ≡ before.asks) × (after.gives ≡ before.gives) × (new.ways ≡ old.ways)
     × HaveLeft old.holders new.holders t (left_by marks t)

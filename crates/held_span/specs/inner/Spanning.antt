@@ -32,6 +32,7 @@ use Rattle.held_span.specs.declared.ways.Ways.{Ways}
 use Rattle.held_span.specs.inner.Freeing.{AreNumbered}
 use Rattle.held_span.specs.inner.Holding.{HasRoomFor, Holds}
 use Rattle.held_span.specs.inner.Keys.{mark_key}
+use Rattle.held_span.specs.inner.Noting.{AreNoted}
 use Rattle.held_span.specs.inner.Paths.{IsPath}
 use Rattle.held_span.specs.inner.Walking.{AreWays, IsMakerOf}
 
@@ -108,4 +109,5 @@ pub record IsSpanning (p : Program) (lim : Bounds) (marks : EffectMarks) (rows :
   pub nodes : List Node
   pub front : FrontHolds nodes run.chains
   pub spanned : AreSpanned rows tree marks nodes (stages p lim before)
+  pub noted : AreNoted rows run.st nodes (stages p lim before) run.notes
   pub followed : AreFollowed run.freeing.ways run.st.links nodes (stages p lim before)

@@ -1,14 +1,16 @@
 -- The earliest times of nodes: each ends as soon as its heaviest chain allows.
 use Rattle.std.proofs.Common.{◌≡◌, ◌<◌, ◌+◌, ◌⊎◌, inl, inr, ℕ, zero, suc, List, [], ◌∷◌, length, map, Option, None, Some, refl, sym, ap, ◌∙◌, subst, arith}
 use Rattle.std.specs.Prelude.{slice_get, slice_index}
+use Rattle.std.specs.Option.{option_map}
 use Rattle.std.proofs.lemmas.List.{length-map}
-use Rattle.std.proofs.lemmas.Option.{slice_get_within}
+use Rattle.std.proofs.lemmas.Option.{slice_get-map, slice_get_within}
 use Rattle.schedule_bounds.specs.Timetables.{AreEarliest}
 use Rattle.span_profile.specs.declared.heaviest_chain.top.Best.{Best}
 use Rattle.span_profile.specs.declared.heaviest_chain.top.Top.{Top}
 use Rattle.span_profile.specs.heaviest_chain.BestChains.{BestChains}
 use Rattle.span_profile.specs.heaviest_chain.Built.{FrontHolds, IsBest}
 use Rattle.span_profile.specs.heaviest_chain.Chains.{Leads, weight_at, weight_of_found}
+use Rattle.span_profile.specs.heaviest_chain.LastBefore.{AreLastBefore, StartsAfter}
 use Rattle.span_profile.specs.heaviest_chain.Nodes.{Node, SharesKey, weight_of}
 use Rattle.span_profile.specs.heaviest_chain.inner.Tops.{IsHighest, IsTop, best_after, best_at, start_after, weight_before, weight_of_best}
 use Rattle.span_profile.proofs.heaviest_chain.Back.{found_below, no_heavier, weight_after}
@@ -106,3 +108,44 @@ module _ (nodes : List Node) (chains : BestChains) (h : FrontHolds nodes chains)
       (sym (starts_are ∙ ap (λ (bs : List Best). map (λ (best : Best). start_after bs best.previous) bs) same))
       (subst (λ (e : List ℕ). AreEarliest (Leads SharesKey nodes) (weight_at weight_of nodes) (length nodes) (weight_before top) starts e)
       (sym (ends_are ∙ ap (λ (bs : List Best). map (λ (best : Best). best.weight) bs) same)) (earliest top highest))
+
+  -- what each waits for the longest
+
+  after_top : (entry : ℕ) (top : Option Top) → IsTop bests (λ before. Leads SharesKey nodes before entry) top → (weight : ℕ) → slice_index starts entry ≡ weight_before top
+      → StartsAfter nodes starts ends entry (best_after top weight).previous
+  after_top entry None none weight is = is
+  after_top entry (Some top) is_top weight is = (is_top.has, end_at bests top.node ∙ (is_top.weight_is ∙ sym is))
+
+  previous_at : (entry : ℕ) (before : Option ℕ) → slice_get (map (λ (best : Best). best.previous) bests) entry ≡ Some before
+      → (best : Best) × (slice_get bests entry ≡ Some best) × (best.previous ≡ before)
+  previous_at entry before is =
+      let within = slice_get_within (map (λ (best : Best). best.previous) bests) entry before is in
+      let same = length-map bests (λ (best : Best). best.previous) in
+      let found = found_below bests entry (omega (arith, within, same)) in
+      let mapped = slice_get-map (λ (best : Best). best.previous) bests entry ∙ ap (option_map (λ (best : Best). best.previous)) found.1 in
+      (found.0, found.1, cc (mapped, is))
+
+  last_before : AreLastBefore nodes starts ends (map (λ (best : Best). best.previous) bests)
+  last_before = record {
+    count = length-map bests (λ (best : Best). best.previous) ∙ h.count;
+    each = λ entry before is.
+        let at = previous_at entry before is in
+        let best = h.bests entry at.0 at.1 in
+        let less = slice_get_within nodes entry best.node best.there in
+        let mine = times_of entry less in
+        let one : at.0 ≡ mine.0 = cc (at.1, mine.2) in
+        subst (StartsAfter nodes starts ends entry)
+        (sym (ap (λ (b : Best). b.previous) mine.1.best_is) ∙ (ap (λ (b : Best). b.previous) (sym one) ∙ at.2))
+        (after_top entry mine.1.top mine.1.is_top mine.1.node.weight (starts_at entry less));
+  }
+
+  -- the same of the lists that were made
+  pub last_before_found : (all : List Best) (some_starts some_ends : List ℕ) (found : List (Option ℕ)) → all ≡ bests
+      → some_starts ≡ map (λ (best : Best). start_after all best.previous) all → some_ends ≡ map (λ (best : Best). best.weight) all
+      → found ≡ map (λ (best : Best). best.previous) all → AreLastBefore nodes some_starts some_ends found
+  last_before_found all some_starts some_ends found same starts_are ends_are found_are =
+      subst (λ (s : List ℕ). AreLastBefore nodes s some_ends found)
+      (sym (starts_are ∙ ap (λ (bs : List Best). map (λ (best : Best). start_after bs best.previous) bs) same))
+      (subst (λ (e : List ℕ). AreLastBefore nodes starts e found) (sym (ends_are ∙ ap (λ (bs : List Best). map (λ (best : Best). best.weight) bs) same))
+      (subst (λ (f : List (Option ℕ)). AreLastBefore nodes starts ends f)
+      (sym (found_are ∙ ap (λ (bs : List Best). map (λ (best : Best). best.previous) bs) same)) last_before))

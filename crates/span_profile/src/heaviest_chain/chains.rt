@@ -2,6 +2,7 @@
 ghost use Rattle.std.specs.Prelude.{◌≡◌, ◌<◌, ◌+◌, ◌++◌, ◌∷◌, [], ◌^◌, Some, IfOk, OnOk, length, map, reverse};
 ghost use Rattle.schedule_bounds.specs.Timetables.{AreEarliest};
 ghost use Rattle.span_profile.specs.heaviest_chain.Chains.{IsHeaviest, Leads, weight_at};
+ghost use Rattle.span_profile.specs.heaviest_chain.LastBefore.{AreLastBefore};
 ghost use Rattle.span_profile.specs.heaviest_chain.Nodes.{Nodes, SharesKey, weight_of};
 ghost use Rattle.span_profile.specs.heaviest_chain.Built.{HasRoom, FrontHolds, IsBuilt};
 ghost use Rattle.span_profile.specs.heaviest_chain.inner.Tops.{IsHighest, PreviousAreLower, best_after, start_after, weight_before};
@@ -49,6 +50,8 @@ pub struct Heaviest {
     pub starts: List<u64>,
     /// For each node the time at which it has ended then.
     pub ends: List<u64>,
+    /// For each node one that leads to it and ends as it starts, and none if it starts at 0.
+    pub before: List<Option<u64>>,
 }
 
 /// The heaviest chain that ends at a node of this weight, if this is the highest node that leads to it.
@@ -118,6 +121,17 @@ fn ends_of(alloc: Global, bests: &[Best]) -> Result<List<u64>, Memory>
     Ok(ends)
 }
 
+/// The last nodes but one of the heaviest chains that end at nodes.
+fn before_of(alloc: Global, bests: &[Best]) -> Result<List<Option<u64>>, Memory>
+    ensures { IfOk result (λ before. before ≡ map (λ best. best.previous) bests.now) }
+{
+    let mut before = List::new(alloc);
+    for best in bests {
+        before.push(best.previous)?;
+    }
+    Ok(before)
+}
+
 /// The nodes of the heaviest chain that ends at this node.
 fn chain_to(alloc: Global, bests: &List<Best>, last: u64) -> Result<List<u64>, Memory>
     requires there { last < length bests.now }
@@ -165,7 +179,7 @@ impl Chains {
         Ok(())
     }
 
-    /// The heaviest chain of these nodes, and their earliest times.
+    /// The heaviest chain of these nodes, their earliest times, and what each waits for the longest.
     pub fn heaviest(self, alloc: Global) -> Result<Heaviest, Memory>
         requires { IsBuilt self }
         ensures heaviest { (nodes : Nodes) → FrontHolds nodes self
@@ -173,6 +187,8 @@ impl Chains {
         ensures earliest { (nodes : Nodes) → FrontHolds nodes self
             → IfOk result (λ h.
             AreEarliest (Leads SharesKey nodes) (weight_at weight_of nodes) (length nodes) h.span h.starts h.ends) }
+        ensures last { (nodes : Nodes) → FrontHolds nodes self
+            → IfOk result (λ h. AreLastBefore nodes h.starts h.ends h.before) }
     {
         let Chains {
             work,
@@ -182,6 +198,7 @@ impl Chains {
         let all = bests.as_slice();
         let starts = starts_of(alloc, all)?;
         let ends = ends_of(alloc, all)?;
+        let before = before_of(alloc, all)?;
         match highest(all) {
             None => Ok(Heaviest {
                 work,
@@ -189,6 +206,7 @@ impl Chains {
                 chain: List::new(alloc),
                 starts,
                 ends,
+                before,
             }),
             Some(top) => Ok(Heaviest {
                 work,
@@ -196,6 +214,7 @@ impl Chains {
                 chain: chain_to(alloc, &bests, top.node)?,
                 starts,
                 ends,
+                before,
             }),
         }
     }

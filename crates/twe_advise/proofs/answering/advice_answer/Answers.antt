@@ -11,6 +11,6 @@ advised_answer-requires-clause-both c =
 -- the advice is written
 pub returns-clause-given : goal.returns-clause-given
 returns-clause-given c =
-    advice_given c.args.form c.args.p.now c.args.lim c.args.moves.now c.in_ok-advice.advice c.in_ok-held.held c.in_ok-answer.answer c.in_ok-advice.ensures.advised
+    advice_given c.args.form c.args.p.now c.args.lim c.args.moves.now c.in_ok-advice.advice c.in_ok-held.held.span c.in_ok-answer.answer c.in_ok-advice.ensures.advised
     c.in_ok-advice.ensures.steps c.in_ok-advice.ensures.tasks c.in_ok-advice.ensures.earliest
-    c.in_ok-held.ensures.held c.in_ok-answer.ensures
+    c.in_ok-held.ensures.held.held c.in_ok-answer.ensures

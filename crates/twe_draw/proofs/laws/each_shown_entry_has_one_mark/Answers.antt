@@ -12,8 +12,8 @@ returns-clause-bars c = λ p tasks bars rows axis. only_marked p tasks bars rows
 
 -- each has one bar, since their numbers differ
 pub returns-clause-one : goal.returns-clause-one
-returns-clause-one c = λ p lim moves work span chain bars tasks picture rows number row bar there has.
+returns-clause-one c = λ p lim moves work span held chain bars tasks holds picture rows number row bar there has.
     let same : 0 + number ≡ number = omega arith in
     subst (λ (n : ℕ). marks_of n (marked rows bars) ≡ 1) same
     (one_mark rows 0 number row (strands p lim (counted picture.drawn.journal)) bars bar
-    (one_bar_each p lim moves work span chain bars tasks picture) there has)
+    (one_bar_each p lim moves work span held chain bars tasks holds picture) there has)

@@ -16,7 +16,6 @@ returns-in-None-clause-freed c =
     let seen : c.as_slice-2.result.now ≡ seen_by c.args.marks.now c.args.t = c.as_slice-2.ensures ∙ c.in_ok-seen.ensures in
     let added = c.in_ok-push_marks.ensures ∙ (λ i. c.args.asks.now ++ map (mark_key (c.len-tasks.ensures i)) ((c.as_slice.ensures ∙ c.in_ok-seen.ensures) i)) in
     record {
-      low = None;
       lowest = subst (λ (l : List EffectMark). IsLowestOf (HoldsOne c.args.self.now.holders l) None) seen c.in-None.ensures;
       walk = [];
       walks = (refl, refl);
@@ -28,5 +27,5 @@ returns-clause-freed c =
     let seen : c.as_slice-2.result.now ≡ seen_by c.args.marks.now c.args.t = c.as_slice-2.ensures ∙ c.in_ok-seen.ensures in
     let added = c.in_ok-push_marks.ensures ∙ (λ i. c.args.asks.now ++ map (mark_key (c.len-tasks.ensures i)) ((c.as_slice.ensures ∙ c.in_ok-seen.ensures) i)) in
     let lowest = subst (λ (l : List EffectMark). IsLowestOf (HoldsOne c.args.self.now.holders l) (Some c.in-Some.s)) seen c.in-Some.ensures in
-    freed_back c.args.marks.now c.args.self.now.holders c.args.self.now.ways c.push_way.new.self c.args.t c.in-Some.s c.args.asks.now c.push_marks.new.keys c.push_way.new.keys c.push_way.result
-    lowest added c.push_way.ensures.walked c.push_way.ensures.noted
+    freed_back c.args.marks.now c.args.self.now.holders c.args.self.now.ways c.push_way.new.self c.args.t c.in-Some.s c.args.asks.now c.push_marks.new.keys c.push_way.new.keys
+    lowest added c.in_ok-push_way.ensures.walked c.in_ok-push_way.ensures.noted

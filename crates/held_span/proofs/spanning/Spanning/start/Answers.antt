@@ -11,4 +11,4 @@ new-requires c =
 
 pub returns : goal.returns
 returns c = λ rows journal plan.
-    spans_first c.args.p.now c.args.lim c.args.marks.now rows journal plan _ c.in_ok-st.ensures c.in_ok-new.ensures c.in_ok-new-2.ensures.room c.in_ok-new-2.ensures.none c.in_ok-new-2.ensures.ways c.new-3.ensures
+    spans_first c.args.p.now c.args.lim c.args.marks.now rows journal plan _ c.in_ok-st.ensures c.in_ok-new.ensures c.in_ok-new-2.ensures.room c.in_ok-new-2.ensures.none c.in_ok-new-2.ensures.ways c.in_ok-new-3.ensures c.new-4.ensures

@@ -7,6 +7,7 @@ use Rattle.twe_machine.specs.declared.state.State.{State}
 use Rattle.span_profile.specs.Recorders.{node_with}
 use Rattle.span_profile.specs.heaviest_chain.Built.{FrontHolds}
 use Rattle.span_profile.specs.heaviest_chain.Nodes.{Node}
+use Rattle.held_span.specs.inner.Noting.{noted}
 use Rattle.held_span.specs.declared.spanning.Spanning.{Spanning}
 use Rattle.held_span.proofs.Steps.{child_there, end_is, few_firsts, has_room, may, mover_known, reached, spans_back}
 use Rattle.held_span.proofs.spanning.Spanning.take.Goals as goal
@@ -58,7 +59,7 @@ note-requires-clause-child c = λ child made.
 
 pub add-requires-clause-some : goal.add-requires-clause-some
 add-requires-clause-some c =
-    let same = c.in_ok-note.ensures.weight in
+    let same = c.in_ok-low.ensures.weight in
     let some = c.in_ok-keys.ensures.some in
     omega (arith, same, some)
 
@@ -71,20 +72,22 @@ add-requires-clause-room c =
     let moved = c.in_ok-keys.ensures.moved in
     let first_end : c.in_ok-keys.keys.end ≡ r.2 =
     ap (λ (x : State × End). x.1) moved ∙ end_is c.args.p.now c.args.lim well c.args.marks.now r.0 r.1 c.args.mv r.2 r.3 c.args.self.now s in
-    has_room c.args.p.now c.args.lim well c.args.marks.now r.0 r.1 c.args.mv r.2 r.3 c.args.self.now s c.in_ok-keys.keys c.note.new.keys c.note.new.self c.take.new.st
-    (ap (λ (x : State × End). x.0) moved) first_end (c.in_ok-keys.ensures.keys s.tree s.records) c.in_ok-note.ensures.weight c.in_ok-note.ensures.room c.in_ok-note.ensures.noted within
+    has_room c.args.p.now c.args.lim well c.args.marks.now r.0 r.1 c.args.mv r.2 r.3 c.args.self.now s c.in_ok-keys.keys c.note-low.new.keys c.note-low.new.self c.take.new.st
+    (ap (λ (x : State × End). x.0) moved) first_end (c.in_ok-keys.ensures.keys s.tree s.records) c.in_ok-low.ensures.weight c.in_ok-low.ensures.room c.in_ok-low.low c.in_ok-low.ensures.noted within
 
 pub returns : goal.returns
 returns c = λ rows before end rest s.
     let well = subst IsWellFormed c.p.view_is c.p.invariant in
     let moved = c.in_ok-keys.ensures.moved in
-    let last = c.note.new.keys in
+    let last = c.note-low.new.keys in
     let first_end : c.in_ok-keys.keys.end ≡ end =
     ap (λ (x : State × End). x.1) moved ∙ end_is c.args.p.now c.args.lim well c.args.marks.now rows before c.args.mv end rest c.args.self.now s in
-    let next : Spanning = record { st = c.take.new.st; recorder = c.take.new.self; freeing = c.note.new.self; chains = c.add.new.self } in
+    let next : Spanning = record { st = c.take.new.st; recorder = c.take.new.self; freeing = c.note-low.new.self; notes = c.add.new.self; chains = c.add-2.new.self } in
+    let notes : c.add.new.self ≡ noted c.args.self.now.notes end c.in_ok-low.low =
+    c.in_ok-add.ensures ∙ ap (λ (e : End). noted c.args.self.now.notes e c.in_ok-low.low) (c.in_ok-low.ensures.end ∙ first_end) in
     let node : record { weight = last.weight; asks = c.as_slice.result.now; gives = c.as_slice-2.result.now } ≡ node_with last =
     λ i. record { weight = last.weight; asks = c.as_slice.ensures i; gives = c.as_slice-2.ensures i } in
-    spans_back c.args.p.now c.args.lim well c.args.marks.now rows before c.args.mv end rest c.args.self.now s c.add.result c.in_ok-keys.keys last c.note.new.self c.take.new.st
-    (ap (λ (x : State × End). x.0) moved) first_end (c.in_ok-keys.ensures.keys s.tree s.records) c.in_ok-note.ensures.weight c.in_ok-note.ensures.room c.in_ok-note.ensures.noted
-    next refl refl (c.in_ok-keys.ensures.records s.tree s.records)
-    (subst (λ (n : Node). OnOk c.add.result (FrontHolds (s.nodes ++ n ∷ []) c.add.new.self)) node (c.add.ensures s.nodes s.front))
+    spans_back c.args.p.now c.args.lim well c.args.marks.now rows before c.args.mv end rest c.args.self.now s c.add-2.result c.in_ok-keys.keys last c.note-low.new.self c.take.new.st
+    (ap (λ (x : State × End). x.0) moved) first_end (c.in_ok-keys.ensures.keys s.tree s.records) c.in_ok-low.ensures.weight c.in_ok-low.ensures.room c.in_ok-low.low c.in_ok-low.ensures.noted
+    next refl refl notes (c.in_ok-keys.ensures.records s.tree s.records)
+    (subst (λ (n : Node). OnOk c.add-2.result (FrontHolds (s.nodes ++ n ∷ []) c.add-2.new.self)) node (c.add-2.ensures s.nodes s.front))

@@ -7,7 +7,7 @@ use Rattle.span_profile.specs.heaviest_chain.Nodes.{SharesKey, weight_of}
 use Rattle.span_profile.specs.heaviest_chain.inner.Fronts.{givers_in}
 use Rattle.span_profile.specs.heaviest_chain.inner.Tops.{IsHighest, IsTopOf}
 use Rattle.span_profile.proofs.heaviest_chain.Back.{previous_lower}
-use Rattle.span_profile.proofs.heaviest_chain.Earliest.{earliest_found}
+use Rattle.span_profile.proofs.heaviest_chain.Earliest.{earliest_found, last_before_found}
 use Rattle.span_profile.proofs.heaviest_chain.HighestChain.{heaviest_followed, heaviest_of_none}
 use Rattle.span_profile.proofs.heaviest_chain.chains.Chains.heaviest.Goals as goal
 
@@ -30,6 +30,12 @@ returns-in-None-clause-earliest c = λ nodes h.
     earliest_found nodes chains (subst (FrontHolds nodes) (sym c.self.view_is) h) None none c.as_slice-all.result.now c.in_ok-starts.starts c.in_ok-ends.ends c.as_slice-all.ensures
     c.in_ok-starts.ensures c.in_ok-ends.ensures
 
+pub returns-in-None-clause-last : goal.returns-in-None-clause-last
+returns-in-None-clause-last c = λ nodes h.
+    let chains : BestChains = record { work = c.self.inside.work; bests = c.self.inside.bests; givers = givers_in c.self.inside.fronts } in
+    last_before_found nodes chains (subst (FrontHolds nodes) (sym c.self.view_is) h) c.as_slice-all.result.now c.in_ok-starts.starts c.in_ok-ends.ends c.in_ok-before.before c.as_slice-all.ensures
+    c.in_ok-starts.ensures c.in_ok-ends.ensures c.in_ok-before.ensures
+
 -- and from the highest node back
 pub returns-clause-heaviest : goal.returns-clause-heaviest
 returns-clause-heaviest c = λ nodes h.
@@ -45,3 +51,9 @@ returns-clause-earliest c = λ nodes h.
     let is : IsTopOf chains.bests (λ node. node < length chains.bests) top = subst (λ (bests : List Best). IsHighest bests (Some top)) c.as_slice-all.ensures c.in-Some.ensures in
     earliest_found nodes chains (subst (FrontHolds nodes) (sym c.self.view_is) h) (Some top) is c.as_slice-all.result.now c.in_ok-starts.starts c.in_ok-ends.ends c.as_slice-all.ensures
     c.in_ok-starts.ensures c.in_ok-ends.ensures
+
+pub returns-clause-last : goal.returns-clause-last
+returns-clause-last c = λ nodes h.
+    let chains : BestChains = record { work = c.self.inside.work; bests = c.self.inside.bests; givers = givers_in c.self.inside.fronts } in
+    last_before_found nodes chains (subst (FrontHolds nodes) (sym c.self.view_is) h) c.as_slice-all.result.now c.in_ok-starts.starts c.in_ok-ends.ends c.in_ok-before.before c.as_slice-all.ensures
+    c.in_ok-starts.ensures c.in_ok-ends.ensures c.in_ok-before.ensures

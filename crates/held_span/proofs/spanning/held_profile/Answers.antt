@@ -8,9 +8,12 @@ use Rattle.twe_machine.proofs.tasks.Filled.{reached_filled}
 use Rattle.twe_machine.specs.declared.state.TaskRow.{TaskRow}
 use Rattle.twe_program.specs.WellFormed.{IsWellFormed}
 use Rattle.effect_marks.specs.Marks.{AreMarksOf}
+use Rattle.held_span.specs.Freed.{stages}
+use Rattle.held_span.specs.inner.Told.{IsTold}
+use Rattle.held_span.proofs.HeldProfiles.{profile_of, told_of}
 use Rattle.held_span.specs.inner.Spanning.{IsPlan, IsSpanning, effect_lists}
-use Rattle.held_span.proofs.Spans.{counted_reached, held_of, plan_of, rest_next}
-use Rattle.held_span.proofs.spanning.held_span.Goals as goal
+use Rattle.held_span.proofs.Spans.{counted_reached, plan_of, rest_next}
+use Rattle.held_span.proofs.spanning.held_profile.Goals as goal
 
 abbrev no_entry : Entry
 no_entry = record { mv = record { kind = Admit; task = 0 }; end = Admitted }
@@ -54,9 +57,14 @@ heaviest-requires c = (c.loop-entry.invariant.nodes, c.loop-entry.invariant.fron
 pub returns-clause-held : goal.returns-clause-held
 returns-clause-held c =
     let items = c.as_slice-entry-items.result.now in
+    let journal = c.in_ok-journal.journal in
+    let st = c.in_ok-journal.st in
+    let counted = c.in_ok-journal.ensures.counted in
     let i = c.loop-entry.entry-index in
     let h = c.in_ok-heaviest.heaviest in
-    let s = subst (λ (l : List Entry). IsSpanning c.args.p.now c.args.lim c.in_ok-marks.marks c.in_ok-journal.st.tasks l (drop i items) c.loop-entry.run)
+    let s = subst (λ (l : List Entry). IsSpanning c.args.p.now c.args.lim c.in_ok-marks.marks st.tasks l (drop i items) c.loop-entry.run)
     (take_all i items c.loop-entry-test.false ∙ c.as_slice-entry-items.ensures) c.loop-entry.invariant in
-    held_of c.args.p.now c.args.lim c.args.moves.now c.in_ok-journal.journal c.in_ok-journal.st c.in_ok-journal.ensures.counted c.in_ok-marks.marks c.loop-entry.run (drop i items) s h.work h.span h.chain
-    (c.in_ok-heaviest.ensures.heaviest s.nodes s.front)
+    let told = told_of c.args.p.now c.args.lim c.args.moves.now journal st counted c.in_ok-marks.marks c.loop-entry.run (drop i items) s h (c.in_ok-heaviest.ensures.last s.nodes s.front) in
+    let all = subst (λ (l : List Entry). IsTold st.tasks (stages c.args.p.now c.args.lim journal) l c.loop-entry.run.notes h) (sym c.as_slice.ensures) told in
+    profile_of c.args.p.now c.args.lim c.args.moves.now journal st counted c.in_ok-marks.marks c.loop-entry.run (drop i items) s h (c.in_ok-heaviest.ensures.heaviest s.nodes s.front)
+    (c.in_ok-heaviest.ensures.earliest s.nodes s.front) c.in_ok-holds.holds (c.in_ok-holds.ensures st.tasks (stages c.args.p.now c.args.lim journal) all)

@@ -1,6 +1,6 @@
 use Rattle.std.proofs.Common.{drop, take}
 use Rattle.held_span.specs.inner.Spanning.{IsSpanning}
-use Rattle.held_span.proofs.spanning.held_span.Given as goal
+use Rattle.held_span.proofs.spanning.held_profile.Given as goal
 
 -- the entries up to here were taken
 abbrev pub invariant-loop-entry : goal.invariant-loop-entry
