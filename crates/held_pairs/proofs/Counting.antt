@@ -1,5 +1,5 @@
 -- A hold by a task that interferes with the held one counts for a pair.
-use Rattle.std.proofs.Common.{◌≡◌, ◌∙◌, ◌<◌, ◌≤◌, ◌⊎◌, inl, inr, ◌∷◌, [], ℕ, ℤ, zero, suc, Bool, true, false, List, length, map, Option, None, Some, get_or, refl, sym, ap, subst, arith}
+use Rattle.std.proofs.Common.{◌≡◌, ◌∙◌, ◌<◌, ◌≤◌, ◌⊎◌, inl, inr, ◌∷◌, [], ℕ, ℤ, zero, suc, Bool, true, List, length, map, Option, None, Some, get_or, refl, sym, ap, subst, arith}
 use Rattle.std.specs.Prelude.{Any, cond, position, slice_get}
 use Rattle.std.specs.List.{list_any, position_or_len}
 use Rattle.std.proofs.lemmas.Bool.{cases_lt, false≢true, lt-ltb}
@@ -28,9 +28,8 @@ use Rattle.twe_machine.proofs.standing.ReachedStands.{reached_stands}
 use Rattle.twe_machine.proofs.tasks.Filled.{reached_filled}
 use Rattle.held_pairs.specs.OfHolds.{IsDeclared, IsOfHold}
 use Rattle.held_pairs.specs.Pairs.{interferes_with_one, pair_of}
-use Rattle.held_pairs.specs.declared.pair.DeclaredEffect.{DeclaredEffect}
 use Rattle.held_pairs.specs.declared.pair.EffectPair.{EffectPair}
-use Rattle.held_pairs.specs.declared.staging.Hold.{Hold}
+use Rattle.held_span.specs.declared.hold.Hold.{Hold}
 
 -- the first element that passes
 record IsFirst {X : Type 0} (p : X → Bool) (xs : List X) : Type 0 where

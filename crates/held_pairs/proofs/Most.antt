@@ -9,7 +9,7 @@ use Rattle.held_pairs.specs.MostHeld.{HasHeld, HeldMost}
 use Rattle.held_pairs.specs.inner.Ranks.{ranked}
 use Rattle.held_pairs.specs.inner.Tallies.{IsTally}
 use Rattle.held_pairs.specs.declared.pair.HeldPair.{HeldPair}
-use Rattle.held_pairs.specs.declared.staging.Hold.{Hold}
+use Rattle.held_span.specs.declared.hold.Hold.{Hold}
 use Rattle.held_pairs.specs.declared.tally.Tally.{Tally}
 use Rattle.held_pairs.proofs.Ranked.{first_in_order, first_or_later, ranked_has_all, ranked_in_order}
 use Rattle.held_pairs.proofs.Totals.{all_have_held, by_numbers, has_each}

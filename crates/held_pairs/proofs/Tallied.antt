@@ -11,7 +11,7 @@ use Rattle.held_pairs.specs.MostHeld.{counts_for, is_pair, time_for, total_of}
 use Rattle.held_pairs.specs.inner.Tallies.{HasMore, IsSmall, IsTally, counted_at, longest, never_held, pair_cmp, with_hold}
 use Rattle.held_pairs.specs.declared.pair.EffectPair.{EffectPair}
 use Rattle.held_pairs.specs.declared.pair.HeldPair.{HeldPair}
-use Rattle.held_pairs.specs.declared.staging.Hold.{Hold}
+use Rattle.held_span.specs.declared.hold.Hold.{Hold}
 use Rattle.held_pairs.specs.declared.tally.Tally.{Tally}
 use Rattle.held_pairs.proofs.PairOrder.{exact_keys, is_itself, is_no_other}
 

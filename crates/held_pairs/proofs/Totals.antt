@@ -18,7 +18,7 @@ use Rattle.held_pairs.specs.inner.Tallies.{IsTally, effect_cmp, never_held, pair
 use Rattle.held_pairs.specs.declared.pair.DeclaredEffect.{DeclaredEffect}
 use Rattle.held_pairs.specs.declared.pair.EffectPair.{EffectPair}
 use Rattle.held_pairs.specs.declared.pair.HeldPair.{HeldPair}
-use Rattle.held_pairs.specs.declared.staging.Hold.{Hold}
+use Rattle.held_span.specs.declared.hold.Hold.{Hold}
 use Rattle.held_pairs.specs.declared.tally.Tally.{Tally}
 use Rattle.held_pairs.proofs.PairOrder.{exact_effects, exact_keys, pairs_total}
 use Rattle.held_pairs.proofs.Ranked.{ByNumbers, LowerPair}

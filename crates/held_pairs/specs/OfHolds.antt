@@ -9,7 +9,7 @@ use Rattle.twe_program.specs.Program.{Program}
 use Rattle.twe_machine.specs.declared.state.TaskRow.{TaskRow}
 use Rattle.held_pairs.specs.declared.pair.DeclaredEffect.{DeclaredEffect}
 use Rattle.held_pairs.specs.declared.pair.EffectPair.{EffectPair}
-use Rattle.held_pairs.specs.declared.staging.Hold.{Hold}
+use Rattle.held_span.specs.declared.hold.Hold.{Hold}
 
 -- the declaration of the task has an effect of this number, and filled with the task's arguments that is this effect
 pub record IsDeclared (p : Program) (row : TaskRow) (its : DeclaredEffect) (effect : Effect) : Type 0 where

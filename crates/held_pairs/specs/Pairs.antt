@@ -6,7 +6,7 @@ use Rattle.std.specs.List.{list_any}
 use Rattle.effect_sets.specs.declared.effects.Effect.{Effect}
 use Rattle.effect_sets.specs.Interference.{statically_interferes}
 use Rattle.held_pairs.specs.declared.pair.EffectPair.{EffectPair}
-use Rattle.held_pairs.specs.declared.staging.Hold.{Hold}
+use Rattle.held_span.specs.declared.hold.Hold.{Hold}
 use Rattle.twe_machine.specs.declared.state.TaskRow.{TaskRow}
 
 infixl 10 ◌>>=◌

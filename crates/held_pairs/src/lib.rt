@@ -9,7 +9,6 @@ mod laws;
 mod meeting;
 mod most_held;
 mod pair;
-mod staging;
 mod tally;
 
 pub use laws::each_hold_counts_for_a_pair;

@@ -4,8 +4,8 @@ ghost use Rattle.held_pairs.specs.Pairs.{first_meeting, interferes_with_one, pai
 ghost use Rattle.effect_sets.specs.Interference.{statically_interferes};
 
 use crate::pair::{DeclaredEffect, EffectPair};
-use crate::staging::Hold;
 use effect_sets::{Effect, interferes};
+use held_span::Hold;
 use twe_machine::TaskRow;
 
 /// Whether the effect interferes with one of the others.

@@ -4,8 +4,8 @@ ghost use Rattle.held_pairs.specs.MostHeld.{HeldMost};
 ghost use Rattle.held_pairs.specs.inner.Ranks.{place_of, ranked, with_pair};
 
 use crate::pair::HeldPair;
-use crate::staging::Hold;
 use crate::tally::Tally;
+use held_span::Hold;
 use std::alloc::Global;
 use twe_base::{List, Memory};
 use twe_machine::TaskRow;

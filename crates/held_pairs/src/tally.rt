@@ -1,13 +1,13 @@
 //! How often and how long each pair has held tasks so far.
 ghost use Rattle.std.specs.Prelude.{◌≡◌, ◌<◌, ◌+◌, ◌-◌, ◌++◌, ◌∷◌, ◌^◌, [], ℕ, List as AnyList, Some, IfOk, OnOk};
 ghost use Rattle.std.specs.BTreeMap as tree;
-ghost use Rattle.held_pairs.specs.declared.staging.Hold.{Hold as AnyHold};
+ghost use Rattle.held_span.specs.declared.hold.Hold.{Hold as AnyHold};
 ghost use Rattle.twe_machine.specs.declared.state.TaskRow.{TaskRow as AnyRow};
 ghost use Rattle.held_pairs.specs.inner.Tallies.{CanCount, HasMore, IsSmall, IsTally, counted_at};
 
 use crate::meeting::pair_of;
 use crate::pair::{EffectPair, HeldPair};
-use crate::staging::Hold;
+use held_span::Hold;
 use std::alloc::Global;
 use std::collections::BTreeMap;
 use twe_base::Memory;

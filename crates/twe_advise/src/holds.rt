@@ -96,12 +96,7 @@ fn push_effect_placed(
 }
 
 /// Appends how long and how often a pair held tasks, and its effects.
-fn push_pair_row(
-    text: &mut Bytes,
-    p: &Prog,
-    items: &[Item],
-    held: HeldPair,
-) -> Result<(), Memory>
+fn push_pair_row(text: &mut Bytes, p: &Prog, items: &[Item], held: HeldPair) -> Result<(), Memory>
     ensures { OnOk result (text.new ≡ text.old ++ pair_row p.now items.now held) }
 {
     push_column(text, held.time)?;

@@ -31,12 +31,7 @@ fn push_json_effect(
 }
 
 /// Appends how long and how often a pair held tasks, and its effects.
-fn push_json_pair(
-    text: &mut Bytes,
-    p: &Prog,
-    items: &[Item],
-    held: HeldPair,
-) -> Result<(), Memory>
+fn push_json_pair(text: &mut Bytes, p: &Prog, items: &[Item], held: HeldPair) -> Result<(), Memory>
     ensures { OnOk result (text.new ≡ text.old ++ json_pair p.now items.now held) }
 {
     push_number(text, b"{\"time\":", held.time)?;

@@ -7,7 +7,7 @@ use Rattle.held_pairs.specs.MostHeld.{total_of}
 use Rattle.held_pairs.specs.declared.pair.DeclaredEffect.{DeclaredEffect}
 use Rattle.held_pairs.specs.declared.pair.EffectPair.{EffectPair}
 use Rattle.held_pairs.specs.declared.pair.HeldPair.{HeldPair}
-use Rattle.held_pairs.specs.declared.staging.Hold.{Hold}
+use Rattle.held_span.specs.declared.hold.Hold.{Hold}
 use Rattle.twe_machine.specs.declared.state.TaskRow.{TaskRow}
 use Rattle.held_pairs.specs.declared.tally.Tally.{Tally}
 

@@ -1,7 +1,7 @@
 use Rattle.std.proofs.Common.{List, sym, subst, take}
 use Rattle.std.proofs.lemmas.List.{take_more}
 use Rattle.held_pairs.specs.inner.Tallies.{IsTally}
-use Rattle.held_pairs.specs.declared.staging.Hold.{Hold}
+use Rattle.held_span.specs.declared.hold.Hold.{Hold}
 use Rattle.held_pairs.proofs.tally.Tally.of_holds.Goals as goal
 
 pub loop-hold-init : goal.loop-hold-init
