@@ -7,7 +7,7 @@ use Rattle.std.proofs.lemmas.Map.Views.{tells_apart}
 use Rattle.std.proofs.lemmas.Option.{same_Some}
 use Rattle.twe_machine.specs.declared.state.TaskRow.{TaskRow}
 use Rattle.held_pairs.specs.Pairs.{pair_of}
-use Rattle.held_pairs.specs.MostHeld.{counts_for, is_pair, time_for, total_of}
+use Rattle.held_pairs.specs.MostHeld.{counts_for, is_pair, time_for, pair_total}
 use Rattle.held_pairs.specs.inner.Tallies.{HasMore, IsSmall, IsTally, counted_at, longest, never_held, pair_cmp, with_hold}
 use Rattle.held_pairs.specs.declared.pair.EffectPair.{EffectPair}
 use Rattle.held_pairs.specs.declared.pair.HeldPair.{HeldPair}
@@ -25,7 +25,7 @@ module _ (rows : List TaskRow) (before : List Hold) (hold : Hold) where
 
   -- the total of a pair over one hold more
   total_more : (p : EffectPair) (counts : Bool) → counts_for rows p hold ≡ counts
-      → total_of rows (before ++ hold ∷ []) p ≡ with_if (total_of rows before p) counts
+      → pair_total rows (before ++ hold ∷ []) p ≡ with_if (pair_total rows before p) counts
   total_more p counts is =
       ap (λ (n : ℕ). record { pair = p; admissions = n; time = sum_by (time_for rows p) (before ++ hold ∷ []) })
       (sum_by_push (λ (h : Hold). cond (counts_for rows p h) 1 0) before hold
@@ -44,23 +44,23 @@ module _ (rows : List TaskRow) (before : List Hold) (hold : Hold) where
   module _ (old new : Tally) (q : EffectPair) (its : pair_of rows hold ≡ Some q) (more : HasMore old new q hold.time)
       (tallied : IsTally rows before old) where
     -- the pair of the hold has one more
-    counts_here : counted_at new q ≡ total_of rows (before ++ hold ∷ []) q
+    counts_here : counted_at new q ≡ pair_total rows (before ++ hold ∷ []) q
     counts_here =
         ap (λ (found : Option HeldPair). unwrap_or found (never_held q)) more.added.1
         ∙ ap (λ (total : HeldPair). with_hold total hold.time) (tallied.each q)
         ∙ sym (total_more q true (ap (is_pair q) its ∙ is_itself q))
 
     -- each other pair has as many as before
-    counts_there : (p : EffectPair) → tree.is_at (pair_cmp q) p ≡ false → counted_at new p ≡ total_of rows (before ++ hold ∷ []) p
+    counts_there : (p : EffectPair) → tree.is_at (pair_cmp q) p ≡ false → counted_at new p ≡ pair_total rows (before ++ hold ∷ []) p
     counts_there p apart =
         ap (λ (found : Option HeldPair). unwrap_or found (never_held p)) (more.added.2 p apart)
         ∙ tallied.each p
-        ∙ sym (nothing_more (total_of rows before p))
+        ∙ sym (nothing_more (pair_total rows before p))
         ∙ sym (total_more p false (ap (is_pair p) its ∙ is_no_other p q apart))
 
-    each_by : (p : EffectPair) (b : Bool) → b ≡ tree.is_at (pair_cmp q) p → counted_at new p ≡ total_of rows (before ++ hold ∷ []) p
+    each_by : (p : EffectPair) (b : Bool) → b ≡ tree.is_at (pair_cmp q) p → counted_at new p ≡ pair_total rows (before ++ hold ∷ []) p
     each_by p true is =
-        subst (λ (x : EffectPair). counted_at new x ≡ total_of rows (before ++ hold ∷ []) x) (tells_apart exact_keys q p (sym is)) counts_here
+        subst (λ (x : EffectPair). counted_at new x ≡ pair_total rows (before ++ hold ∷ []) x) (tells_apart exact_keys q p (sym is)) counts_here
     each_by p false is = counts_there p (sym is)
 
     some_by : (p : EffectPair) (total : HeldPair) (b : Bool)

@@ -13,7 +13,7 @@ use Rattle.std.proofs.lemmas.Map.Lookups.{exact_unsigned}
 use Rattle.std.proofs.lemmas.Map.Made.{Contains-values_of}
 use Rattle.std.proofs.lemmas.Map.Views.{All-found, btree_map_get_iff}
 use Rattle.twe_machine.specs.declared.state.TaskRow.{TaskRow}
-use Rattle.held_pairs.specs.MostHeld.{HasHeld, IsDeclaredBefore, IsLower, total_of}
+use Rattle.held_pairs.specs.MostHeld.{HasHeld, IsDeclaredBefore, IsLower, pair_total}
 use Rattle.held_pairs.specs.inner.Tallies.{IsTally, effect_cmp, never_held, pair_cmp}
 use Rattle.held_pairs.specs.declared.pair.DeclaredEffect.{DeclaredEffect}
 use Rattle.held_pairs.specs.declared.pair.EffectPair.{EffectPair}
@@ -72,7 +72,7 @@ in_order (e ∷ es) all ordered = (
 )
 
 module _ (rows : List TaskRow) (holds : List Hold) (tally : Tally) (tallied : IsTally rows holds tally) where
-  found_is : (pair : EffectPair) (total : HeldPair) → tree.get pair_cmp tally.pairs pair ≡ Some total → total ≡ total_of rows holds pair
+  found_is : (pair : EffectPair) (total : HeldPair) → tree.get pair_cmp tally.pairs pair ≡ Some total → total ≡ pair_total rows holds pair
   found_is pair total found = sym (ap (λ (f : Option HeldPair). unwrap_or f (never_held pair)) found) ∙ tallied.each pair
 
   all_found : All (λ (e : EffectPair × HeldPair). tree.get pair_cmp tally.pairs e.0 ≡ Some e.1) tally.pairs.entries
@@ -89,7 +89,7 @@ module _ (rows : List TaskRow) (holds : List Hold) (tally : Tally) (tallied : Is
   has_held : (e : EffectPair × HeldPair) → tree.get pair_cmp tally.pairs e.0 ≡ Some e.1 → HasHeld rows holds e.1
   has_held e found = record {
     some = tallied.some e.0 e.1 found;
-    total_is = found_is e.0 e.1 found ∙ ap (total_of rows holds) (sym (ap (λ (total : HeldPair). total.pair) (found_is e.0 e.1 found)));
+    total_is = found_is e.0 e.1 found ∙ ap (pair_total rows holds) (sym (ap (λ (total : HeldPair). total.pair) (found_is e.0 e.1 found)));
   }
 
   -- each has held tasks
@@ -101,7 +101,7 @@ module _ (rows : List TaskRow) (holds : List Hold) (tally : Tally) (tallied : Is
   is_found : (total : HeldPair) → HasHeld rows holds total → (found : Option HeldPair)
       → tree.get pair_cmp tally.pairs total.pair ≡ found → tree.get pair_cmp tally.pairs total.pair ≡ Some total
   is_found total held None is =
-      let none : never_held total.pair ≡ total_of rows holds total.pair =
+      let none : never_held total.pair ≡ pair_total rows holds total.pair =
       sym (ap (λ (f : Option HeldPair). unwrap_or f (never_held total.pair)) is) ∙ tallied.each total.pair in
       let never : total.admissions ≡ 0 = ap (λ (t : HeldPair). t.admissions) (held.total_is ∙ sym none) in
       let some = held.some in absurd (omega arith)

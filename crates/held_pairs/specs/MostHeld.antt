@@ -25,8 +25,8 @@ abbrev pub time_for : List TaskRow → EffectPair → Hold → ℕ
 time_for rows pair hold = if counts_for rows pair hold then hold.time else 0
 
 -- how often and how long the pair held tasks
-abbrev pub total_of : List TaskRow → List Hold → EffectPair → HeldPair
-total_of rows holds pair = record {
+abbrev pub pair_total : List TaskRow → List Hold → EffectPair → HeldPair
+pair_total rows holds pair = record {
   pair = pair;
   admissions = count_by (counts_for rows pair) holds;
   time = sum_by (time_for rows pair) holds;
@@ -35,7 +35,7 @@ total_of rows holds pair = record {
 -- a pair that held some task, and how often and how long it held tasks
 pub record HasHeld (rows : List TaskRow) (holds : List Hold) (total : HeldPair) : Type 0 where
   pub some : 0 < total.admissions
-  pub total_is : total ≡ total_of rows holds total.pair
+  pub total_is : total ≡ pair_total rows holds total.pair
 
 -- the first effect is declared before the second
 abbrev pub IsDeclaredBefore : DeclaredEffect → DeclaredEffect → Type 0

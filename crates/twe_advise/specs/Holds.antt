@@ -12,7 +12,7 @@ use Rattle.held_pairs.specs.declared.pair.DeclaredEffect.{DeclaredEffect}
 use Rattle.held_pairs.specs.declared.pair.HeldPair.{HeldPair}
 use Rattle.text_meaning.specs.EffectTexts.{effect_text}
 use Rattle.run_texts.specs.TaskLabels.{decl_name}
-use Rattle.twe_advise.specs.Parameters.{params_of}
+use Rattle.twe_advise.specs.Parameters.{task_params}
 use Rattle.twe_advise.specs.Texts.{number_column}
 
 -- an effect that was looked up
@@ -21,22 +21,22 @@ effect_found regions params None = []
 effect_found regions params (Some effect) = effect_text regions params effect
 
 -- the effect of this number of a declaration that was looked up, whose parameters have these names
-abbrev pub effect_at : List (List ℕ) → List Name → Option Decl → ℕ → List ℕ
-effect_at regions params None number = []
-effect_at regions params (Some decl) number = effect_found regions params (slice_get decl.summary.effects number)
+abbrev pub numbered_effect : List (List ℕ) → List Name → Option Decl → ℕ → List ℕ
+numbered_effect regions params None number = []
+numbered_effect regions params (Some decl) number = effect_found regions params (slice_get decl.summary.effects number)
 
 -- a declared effect, as `writes D:[i]`
 abbrev pub declared_effect : Program → List Item → DeclaredEffect → List ℕ
-declared_effect p items its = effect_at p.regions (params_of items its.decl) (slice_get p.tasks its.decl) its.effect
+declared_effect p items its = numbered_effect p.regions (task_params items its.decl) (slice_get p.tasks its.decl) its.effect
 
 -- a place, as ` 3:6`
-abbrev pub place_after : Place → List ℕ
-place_after place = codes " " ++ (decimal place.line ++ (codes ":" ++ decimal place.col))
+abbrev pub spaced_place : Place → List ℕ
+spaced_place place = codes " " ++ (decimal place.line ++ (codes ":" ++ decimal place.col))
 
 -- the place of a declaration that was looked up
 abbrev pub place_found : Option Decl → List ℕ
 place_found None = []
-place_found (Some decl) = place_after decl.place
+place_found (Some decl) = spaced_place decl.place
 
 -- a declared effect with the name and the place of its declaration, as `` `writes D:[i]` of inc 3:6``
 abbrev pub effect_placed : Program → List Item → DeclaredEffect → List ℕ

@@ -3,6 +3,7 @@ use Rattle.std.specs.Prelude.{◌++◌, ℕ, suc, List, [], ◌∷◌, codes, sl
 use Rattle.twe_ast.specs.declared.item.Item.{Item}
 use Rattle.twe_program.specs.Program.{Program}
 use Rattle.held_pairs.specs.declared.pair.DeclaredEffect.{DeclaredEffect}
+use Rattle.held_pairs.specs.declared.pair.EffectPair.{EffectPair}
 use Rattle.held_pairs.specs.declared.pair.HeldPair.{HeldPair}
 use Rattle.run_texts.specs.TaskLabels.{decl_name}
 use Rattle.twe_advise.specs.Holds.{declared_effect}
@@ -18,13 +19,16 @@ json_effect p items its =
     ++ (codes "\",\"name\":\""
     ++ (decl_name (slice_get p.tasks its.decl) ++ (codes "\"" ++ (json_place_found (slice_get p.tasks its.decl) ++ codes "}")))))
 
+-- `,"holder":{..},"held":{..}`
+unfoldable pub json_sides : Program → List Item → EffectPair → List ℕ
+json_sides p items pair =
+    codes ",\"holder\":" ++ (json_effect p items pair.holder ++ (codes ",\"held\":" ++ json_effect p items pair.held))
+
 -- `{"time":12,"admissions":3,"holder":{..},"held":{..}}`
 abbrev pub json_pair : Program → List Item → HeldPair → List ℕ
 json_pair p items held =
     word_number (codes "{\"time\":") held.time
-    ++ (word_number (codes ",\"admissions\":") held.admissions
-    ++ (codes ",\"holder\":"
-    ++ (json_effect p items held.pair.holder ++ (codes ",\"held\":" ++ (json_effect p items held.pair.held ++ codes "}")))))
+    ++ (word_number (codes ",\"admissions\":") held.admissions ++ (json_sides p items held.pair ++ codes "}"))
 
 -- the object of the pair with this number, which comes after a comma unless it is the first
 abbrev pub json_next_pair : Program → List Item → ℕ → HeldPair → List ℕ

@@ -15,7 +15,7 @@ pub data AreDeclarations (text : List ℕ) : List Item → Type 0 where
   of_none : (rule : SRule) (place : Place) → IsSyntaxFailure text rule place → AreDeclarations text []
 
 -- the names of the parameters of the task with this number, counted from 0 in the order of the text
-abbrev pub params_of : List Item → ℕ → List Name
-params_of [] task = []
-params_of (Task deterministic decl ∷ items) task = if task == 0 then decl.params else params_of items (task - 1)
-params_of (_ ∷ items) task = params_of items task
+abbrev pub task_params : List Item → ℕ → List Name
+task_params [] task = []
+task_params (Task deterministic decl ∷ items) task = if task == 0 then decl.params else task_params items (task - 1)
+task_params (_ ∷ items) task = task_params items task

@@ -1,9 +1,9 @@
 //! The pairs of declared effects that held most, as they are written for people.
 ghost use Rattle.std.specs.Prelude.{◌≡◌, ◌++◌, OnOk, option_copied, slice_get};
 ghost use Rattle.std.specs.List.{flat_map};
-ghost use Rattle.twe_advise.specs.Holds.{declared_effect, effect_at, effect_found, effect_placed, holds_text, pair_row, place_after, place_found};
+ghost use Rattle.twe_advise.specs.Holds.{declared_effect, numbered_effect, effect_found, effect_placed, holds_text, pair_row, spaced_place, place_found};
 
-use crate::request::params_of;
+use crate::request::task_params;
 use crate::text::{push_column, push_small_column};
 use effect_sets::Effect;
 use held_pairs::{DeclaredEffect, HeldPair};
@@ -30,14 +30,14 @@ fn push_effect_found(
 }
 
 /// Appends the effect of this number of a declaration whose parameters have these names, if there is one.
-fn push_effect_at(
+fn push_numbered_effect(
     text: &mut Bytes,
     regions: &[Word],
     params: &[Name],
     decl: Option<&Decl>,
     number: usize,
 ) -> Result<(), Memory>
-    ensures { OnOk result (text.new ≡ text.old ++ effect_at regions.now params.now (option_copied decl.entry) number) }
+    ensures { OnOk result (text.new ≡ text.old ++ numbered_effect regions.now params.now (option_copied decl.entry) number) }
 {
     match decl {
         None => Ok(()),
@@ -54,14 +54,14 @@ pub(crate) fn push_declared_effect(
 ) -> Result<(), Memory>
     ensures { OnOk result (text.new ≡ text.old ++ declared_effect p.now items.now its) }
 {
-    let params = params_of(items, its.decl);
+    let params = task_params(items, its.decl);
     let decl = p.tasks.get(its.decl as usize);
-    push_effect_at(text, p.regions.as_slice(), params, decl, its.effect)
+    push_numbered_effect(text, p.regions.as_slice(), params, decl, its.effect)
 }
 
 /// Appends a place, as ` 3:6`.
-fn push_place_after(text: &mut Bytes, place: Place) -> Result<(), Memory>
-    ensures { OnOk result (text.new ≡ text.old ++ place_after place) }
+fn push_spaced_place(text: &mut Bytes, place: Place) -> Result<(), Memory>
+    ensures { OnOk result (text.new ≡ text.old ++ spaced_place place) }
 {
     text.push_all(b" ")?;
     text.push_all(Buffer::new().format(place.line).as_bytes())?;
@@ -75,7 +75,7 @@ fn push_place_of(text: &mut Bytes, p: &Prog, decl: u32) -> Result<(), Memory>
 {
     match p.tasks.get(decl as usize) {
         None => Ok(()),
-        Some(decl) => push_place_after(text, decl.place),
+        Some(decl) => push_spaced_place(text, decl.place),
     }
 }
 

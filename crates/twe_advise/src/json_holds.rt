@@ -1,12 +1,12 @@
 //! The pairs of declared effects that held most as JSON: an object for each of them.
 ghost use Rattle.std.specs.Prelude.{◌≡◌, ◌++◌, OnOk};
-ghost use Rattle.twe_advise.specs.JsonHolds.{json_effect, json_next_pair, json_pair, json_pairs};
+ghost use Rattle.twe_advise.specs.JsonHolds.{json_effect, json_next_pair, json_pair, json_pairs, json_sides};
 
 use crate::holds::push_declared_effect;
 use crate::json::{push_comma, push_small};
 use crate::json_chains::push_json_place_of;
 use crate::text::push_number;
-use held_pairs::{DeclaredEffect, HeldPair};
+use held_pairs::{DeclaredEffect, EffectPair, HeldPair};
 use run_texts::task_name;
 use twe_ast::Item;
 use twe_base::{Bytes, Memory};
@@ -30,16 +30,28 @@ fn push_json_effect(
     text.push_all(b"}")
 }
 
+/// Appends the effects of a pair.
+fn push_json_sides(
+    text: &mut Bytes,
+    p: &Prog,
+    items: &[Item],
+    pair: EffectPair,
+) -> Result<(), Memory>
+    ensures { OnOk result (text.new ≡ text.old ++ json_sides p.now items.now pair) }
+{
+    text.push_all(b",\"holder\":")?;
+    push_json_effect(text, p, items, pair.holder)?;
+    text.push_all(b",\"held\":")?;
+    push_json_effect(text, p, items, pair.held)
+}
+
 /// Appends how long and how often a pair held tasks, and its effects.
 fn push_json_pair(text: &mut Bytes, p: &Prog, items: &[Item], held: HeldPair) -> Result<(), Memory>
     ensures { OnOk result (text.new ≡ text.old ++ json_pair p.now items.now held) }
 {
     push_number(text, b"{\"time\":", held.time)?;
     push_small(text, b",\"admissions\":", held.admissions)?;
-    text.push_all(b",\"holder\":")?;
-    push_json_effect(text, p, items, held.pair.holder)?;
-    text.push_all(b",\"held\":")?;
-    push_json_effect(text, p, items, held.pair.held)?;
+    push_json_sides(text, p, items, held.pair)?;
     text.push_all(b"}")
 }
 

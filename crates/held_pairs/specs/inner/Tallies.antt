@@ -3,7 +3,7 @@ use Rattle.std.specs.Prelude.{◌≡◌, ◌<◌, ◌≤◌, ◌+◌, ◌-◌, �
 use Rattle.std.specs.declared.cmp.Ordering.{Ordering}
 use Rattle.std.specs.Ordering.{nat_cmp, ordering_then}
 use Rattle.std.specs.BTreeMap as tree
-use Rattle.held_pairs.specs.MostHeld.{total_of}
+use Rattle.held_pairs.specs.MostHeld.{pair_total}
 use Rattle.held_pairs.specs.declared.pair.DeclaredEffect.{DeclaredEffect}
 use Rattle.held_pairs.specs.declared.pair.EffectPair.{EffectPair}
 use Rattle.held_pairs.specs.declared.pair.HeldPair.{HeldPair}
@@ -34,7 +34,7 @@ counted_at tally pair = unwrap_or (tree.get pair_cmp tally.pairs pair) (never_he
 -- The pairs are in order, each pair has its total over these holds, and those that are there have held some task.
 pub record IsTally (rows : List TaskRow) (holds : List Hold) (tally : Tally) : Type 0 where
   pub ordered : tree.IsOrdered pair_cmp tally.pairs
-  pub each : (pair : EffectPair) → counted_at tally pair ≡ total_of rows holds pair
+  pub each : (pair : EffectPair) → counted_at tally pair ≡ pair_total rows holds pair
   pub some : (pair : EffectPair) (total : HeldPair) → tree.get pair_cmp tally.pairs pair ≡ Some total → 0 < total.admissions
 
 -- the greatest time of a hold
