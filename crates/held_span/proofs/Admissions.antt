@@ -1,5 +1,5 @@
 -- An admission: who holds the task waits for it, and all entries by those on the ways to it are followed.
-use Rattle.std.proofs.Common.{◌≡◌, ◌≢◌, ◌<◌, ◌≤◌, ◌⊎◌, inl, inr, ℕ, List, [], ◌∷◌, length, Option, None, Some, refl, sym, ap, ◌∙◌, subst, arith}
+use Rattle.std.proofs.Common.{◌≡◌, ◌≢◌, ◌<◌, ◌≤◌, ℕ, List, length, Option, None, Some, refl, sym, ap, ◌∙◌, subst, arith}
 use Rattle.std.specs.Prelude.{slice_get}
 use Rattle.std.specs.List.{Contains}
 use Rattle.std.proofs.lemmas.Option.{slice_get_within}
@@ -9,10 +9,10 @@ use Rattle.effect_sets.specs.Interference.{SomeInterfere}
 use Rattle.effect_sets.specs.declared.effects.Effect.{Effect}
 use Rattle.twe_program.specs.Program.{Program}
 use Rattle.twe_program.specs.WellFormed.{IsWellFormed}
-use Rattle.wait_graph.specs.Chain.{Chain, none, more}
+use Rattle.wait_graph.specs.Chain.{none}
 use Rattle.wait_graph.specs.declared.tasks.Link.{Link}
 use Rattle.wait_graph.specs.Link.{link_of}
-use Rattle.wait_graph.specs.Waiting.{IsDone, WaitsFor, WaitsOn, WaitsOnUnlessDone}
+use Rattle.wait_graph.specs.Waiting.{IsDone, WaitsFor, WaitsOn}
 use Rattle.wait_graph.proofs.ChainLemmas.{Chain-append, Chain-stays}
 use Rattle.twe_machine.specs.declared.state.State.{State}
 use Rattle.twe_machine.specs.declared.state.TaskRow.{TaskRow}
@@ -29,8 +29,7 @@ use Rattle.twe_machine.proofs.standing.Standing.{IsOver, Stands}
 use Rattle.twe_machine.proofs.tasks.MadeTasks.{free_by, made_row, orphan_by, yields_by}
 use Rattle.twe_machine.proofs.tasks.OtherTasks.{waits_row}
 use Rattle.isolation_laws.proofs.rows.LinksOfRows.{enabled_undone}
-use Rattle.effect_marks.specs.Marks.{AreMarksOf, left_by, seen_by}
-use Rattle.effect_marks.specs.declared.marks.EffectMark.{EffectMark}
+use Rattle.effect_marks.specs.Marks.{AreMarksOf, seen_by}
 use Rattle.effect_marks.specs.declared.marks.EffectMarks.{EffectMarks}
 use Rattle.held_span.specs.Ways.{IsOnWay, RowsInterfere}
 use Rattle.held_span.specs.declared.holders.Holders.{Holders}

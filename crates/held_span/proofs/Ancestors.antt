@@ -1,7 +1,6 @@
 -- Who has made whom, and the waits along it: a task waits only for tasks that it has made, so the waiters of a task are among
 -- those that made one another down to it.
-use Rattle.std.proofs.Common.{◌≡◌, ◌≢◌, ◌<◌, ◌≤◌, ◌⊎◌, inl, inr, ℕ, List, Some, refl, sym, ◌∙◌, subst, arith}
-use Rattle.std.specs.Prelude.{slice_get}
+use Rattle.std.proofs.Common.{◌≡◌, ◌≢◌, ◌<◌, ◌≤◌, ◌⊎◌, inl, inr, ℕ, List, refl, subst, arith}
 use Rattle.std.proofs.lemmas.Bool.{cases_eq}
 use Rattle.wait_graph.specs.Chain.{Chain, none, more}
 use Rattle.wait_graph.specs.declared.tasks.Link.{Link}

@@ -1,7 +1,7 @@
 -- The held span is between the span and the work.
-use Rattle.std.proofs.Common.{◌≡◌, ◌<◌, ◌≤◌, ◌+◌, inl, ℕ, zero, suc, List, [], ◌∷◌, length, map, drop, take, Option, None, Some, refl, sym, ap, ◌∙◌, subst, arith}
+use Rattle.std.proofs.Common.{◌≡◌, ◌≤◌, ◌+◌, ℕ, zero, suc, List, [], ◌∷◌, length, drop, refl, sym, ap, ◌∙◌, subst, arith}
 use Rattle.std.specs.Prelude.{slice_get, sum_by}
-use Rattle.std.proofs.lemmas.List.Sums.{sum_by-append, sum_by-cons, sum_by-take-drop}
+use Rattle.std.proofs.lemmas.List.Sums.{sum_by-cons}
 use Rattle.seg_journal.specs.declared.journal.Entry.{Entry}
 use Rattle.seg_journal.specs.declared.moves.Move.{Move}
 use Rattle.twe_base.specs.Limits.{Bounds}
@@ -14,8 +14,8 @@ use Rattle.twe_machine.proofs.replays.Replayed.{one_from}
 use Rattle.span_profile.specs.heaviest_chain.Chains.{IsChain, IsChainOf, IsHeaviest, Leads, chain_weight, weight_at, weight_of_found}
 use Rattle.span_profile.specs.LeadsTo.{LeadsTo}
 use Rattle.span_profile.specs.Profiles.{IsProfile}
-use Rattle.span_profile.specs.Strands.{Strand, strands, strands_from, weight_of}
-use Rattle.held_span.specs.Freed.{FollowsFreed, RunEntry, stage_of, stage_weight, stages, stages_from}
+use Rattle.span_profile.specs.Strands.{strands, strands_from, weight_of}
+use Rattle.held_span.specs.Freed.{FollowsFreed, stage_of, stage_weight, stages, stages_from}
 use Rattle.held_span.specs.HeldSpans.{IsHeldSpan}
 use Rattle.held_span.proofs.StrandStages.{leads_still, strand_count, weights_at}
 

@@ -1,6 +1,6 @@
 -- If some edges cover all edges, the chains of them are as heavy as all chains: an edge which a path of others covers can be left
 -- out.
-use Rattle.std.proofs.Common.{◌≤◌, ◌+◌, ℕ, List, [], ◌∷◌, ◌++◌, arith}
+use Rattle.std.proofs.Common.{◌≤◌, ℕ, List, [], ◌∷◌, ◌++◌, arith}
 use Rattle.std.specs.Prelude.{sum_by}
 use Rattle.std.proofs.lemmas.List.Sums.{sum_by-append, sum_by-cons}
 use Rattle.span_profile.specs.heaviest_chain.Chains.{IsChain}

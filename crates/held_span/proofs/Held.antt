@@ -15,7 +15,7 @@ use Rattle.std.proofs.lemmas.Map.Lookups.{exact_unsigned}
 use Rattle.effect_marks.specs.declared.marks.EffectMark.{EffectMark}
 use Rattle.effect_marks.specs.declared.marks.EffectMark.TheVariants.{Own, Rival}
 use Rattle.held_span.specs.declared.holders.Holders.{Holders}
-use Rattle.held_span.specs.inner.Holding.{Holds, HoldsOne, IsEntry, IsForMark, IsInSet, IsLowestOf, KeepsRoom, has_found, lower}
+use Rattle.held_span.specs.inner.Holding.{Holds, HoldsOne, IsEntry, IsForMark, IsInSet, IsLowestOf, KeepsRoom, lower}
 
 -- One set.
 

@@ -1,5 +1,5 @@
 -- Each task is known with its maker, and those on its way wait for one another, over a legal move.
-use Rattle.std.proofs.Common.{◌≡◌, ◌≢◌, ◌<◌, ◌≤◌, ◌+◌, ◌++◌, ◌⊎◌, inl, inr, ℕ, List, [], ◌∷◌, length, length-append, length-set, Option, None, Some, refl, sym, ap, ◌∙◌, subst, arith}
+use Rattle.std.proofs.Common.{◌≡◌, ◌<◌, ◌≤◌, ◌+◌, ◌++◌, ◌⊎◌, inl, inr, ℕ, List, [], ◌∷◌, length, length-append, length-set, Option, None, Some, refl, sym, ap, ◌∙◌, subst, arith}
 use Rattle.std.specs.Prelude.{slice_get, slice_set}
 use Rattle.seg_journal.specs.declared.journal.End.{End}
 use Rattle.seg_journal.specs.declared.journal.End.TheVariants as ends
@@ -19,12 +19,11 @@ use Rattle.twe_machine.proofs.lists.Places.{set_cases}
 use Rattle.twe_machine.proofs.standing.Standing.{Stands}
 use Rattle.twe_machine.proofs.tasks.Movers.{mover_there}
 use Rattle.effect_marks.proofs.Longer.{get-cases, get-kept, get-last}
-use Rattle.effect_marks.specs.declared.marks.EffectMarks.{EffectMarks}
 use Rattle.held_span.specs.declared.ways.Ways.{Ways}
 use Rattle.held_span.specs.inner.Freeing.{Walks}
 use Rattle.run_laws.specs.Orders.{HasMade}
 use Rattle.held_span.specs.inner.Spanning.{AreLed}
-use Rattle.held_span.specs.inner.Walking.{AreWays, IsMakerOf, entered}
+use Rattle.held_span.specs.inner.Walking.{AreWays, entered}
 
 -- who was made before, or is made by the entry
 made_cases : (before : List Entry) (entry : Entry) (s u : ℕ) → HasMade (before ++ entry ∷ []) s u → HasMade before s u ⊎ ((entry.mv.task ≡ s) × (entry.end ≡ ends.Made u))

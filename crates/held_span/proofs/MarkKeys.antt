@@ -1,12 +1,12 @@
 -- The key of a mark is no key of what an entry did, and no two marks have one key.
-use Rattle.std.proofs.Common.{◌≡◌, ◌<◌, ◌+◌, ◌⊎◌, inl, inr, ℕ, List, Some, sym, subst, arith}
+use Rattle.std.proofs.Common.{◌≡◌, ◌<◌, ◌+◌, inl, inr, ℕ, List, subst, arith}
 use Rattle.std.specs.List.{Contains}
 use Rattle.prefix_tree.specs.declared.part.Part.{Part}
 use Rattle.effect_marks.specs.declared.marks.EffectMark.{EffectMark}
 use Rattle.effect_marks.specs.declared.marks.EffectMark.TheVariants.{Own, Rival}
 use Rattle.span_profile.specs.Strands.{Strand}
 use Rattle.span_profile.specs.declared.heaviest_chain.key.Key.{Key}
-use Rattle.span_profile.specs.declared.heaviest_chain.key.Key.TheVariants.{Task, Value}
+use Rattle.span_profile.specs.declared.heaviest_chain.key.Key.TheVariants.{Task}
 use Rattle.span_profile.specs.heaviest_chain.Nodes.{Node}
 use Rattle.span_profile.specs.inner.Shows.{AsksKey, GivesKey, Shows}
 use Rattle.held_span.specs.inner.Keys.{mark_key}

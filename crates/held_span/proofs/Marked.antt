@@ -1,18 +1,18 @@
 -- Each mark of a list is that of one of the effects that were numbered.
-use Rattle.std.proofs.Common.{◌≡◌, ◌<◌, ◌+◌, ◌++◌, ℕ, List, [], ◌∷◌, length, get_or, map, take, Option, None, Some, inl, inr, true, refl, sym, ap, ◌∙◌, subst, arith}
+use Rattle.std.proofs.Common.{◌≡◌, ◌<◌, ◌+◌, ◌++◌, ℕ, List, [], ◌∷◌, length, get_or, map, take, Option, None, Some, inl, inr, refl, sym, ap, ◌∙◌, subst, arith}
 use Rattle.std.specs.Prelude.{IsTrue, slice_get}
 use Rattle.std.specs.List.{Contains}
 use Rattle.std.proofs.lemmas.List.{map-append, take_more}
 use Rattle.std.proofs.lemmas.Option.{slice_get-get_or, slice_get_read, slice_get_within}
 use Rattle.std.proofs.lemmas.Bool.{false≢true}
-use Rattle.twe_base.proofs.Members.{IsIn, contains-in, flat_map-in, in-contains}
+use Rattle.twe_base.proofs.Members.{contains-in, flat_map-in, in-contains}
 use Rattle.effect_sets.specs.Filled.{all_filled}
 use Rattle.effect_sets.specs.declared.effects.Effect.{Effect}
 use Rattle.twe_machine.specs.declared.state.TaskRow.{TaskRow}
 use Rattle.effect_marks.proofs.Longer.{listed-row}
 use Rattle.effect_marks.specs.Marks.{AreMarksOf, left_by, left_marks, seen_by, seen_marks}
-use Rattle.effect_marks.specs.Rivals.{AreNumbersOf, AreRivals, EffectList, IsNumberOf, interferes_found}
-use Rattle.effect_marks.specs.Tables.{IsListed, numbers_in}
+use Rattle.effect_marks.specs.Rivals.{AreNumbersOf, EffectList, IsNumberOf, interferes_found}
+use Rattle.effect_marks.specs.Tables.{numbers_in}
 use Rattle.effect_marks.specs.declared.marks.EffectMark.{EffectMark}
 use Rattle.effect_marks.specs.declared.marks.EffectMark.TheVariants.{Own, Rival}
 use Rattle.effect_marks.specs.declared.marks.EffectMarks.{EffectMarks}

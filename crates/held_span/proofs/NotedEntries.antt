@@ -1,5 +1,5 @@
 -- What is noted of the entries of a run, over a legal move.
-use Rattle.std.proofs.Common.{◌≡◌, ◌≢◌, ◌<◌, ◌+◌, ◌++◌, ◌⊎◌, inl, inr, ℕ, Bool, true, false, List, [], ◌∷◌, length, length-append, Option, None, Some, IsTrue, refl, sym, ap, ◌∙◌, subst, arith}
+use Rattle.std.proofs.Common.{◌≡◌, ◌≢◌, ◌<◌, ◌+◌, ◌++◌, inl, inr, ℕ, Bool, true, false, List, [], ◌∷◌, length, length-append, Option, None, Some, IsTrue, refl, sym, ap, ◌∙◌, subst, arith}
 use Rattle.std.specs.Prelude.{slice_get}
 use Rattle.std.specs.List.{Contains}
 use Rattle.std.proofs.lemmas.Bool.{cases_eq}
@@ -15,7 +15,6 @@ use Rattle.twe_program.specs.Program.{Program}
 use Rattle.twe_program.specs.WellFormed.{IsWellFormed}
 use Rattle.twe_machine.specs.declared.state.State.{State}
 use Rattle.twe_machine.specs.declared.state.TaskRow.{TaskRow}
-use Rattle.twe_machine.specs.declared.state.TaskStatus.{TaskStatus}
 use Rattle.twe_machine.specs.declared.state.TaskStatus.TheVariants.{Done, Enabled, Made}
 use Rattle.twe_machine.specs.Changes.{LeavesAlone, made_by}
 use Rattle.twe_machine.specs.Legal.{MayMove, MayTake}
@@ -29,7 +28,6 @@ use Rattle.effect_marks.proofs.Longer.{get-cases, get-kept, get-last}
 use Rattle.span_profile.proofs.Lists.{contains_none}
 use Rattle.span_profile.specs.LeadsTo.{LeadsTo, conflict, gives_value, makes, same_task}
 use Rattle.span_profile.specs.Strands.{Strand, admission, made_task}
-use Rattle.span_profile.specs.heaviest_chain.Chains.{Leads}
 use Rattle.span_profile.specs.heaviest_chain.Nodes.{Node, SharesKey}
 use Rattle.held_span.specs.Freed.{IsBy, RunEntry}
 use Rattle.held_span.specs.Holds.{Makes}
@@ -187,13 +185,13 @@ module _ (p : Program) (lim : Bounds) (well : IsWellFormed p) (rows : List TaskR
   begun_still : (a : Strand) → HasBegun st a → HasBegun after a
   begun_still a begun = elim (cases_eq a.task mv.task) [
     | inl same ↦ record {
-        status = status_after end;
-        has = subst (λ (t : ℕ). HasStatus after t (status_after end)) (sym same) own;
-        begun = begun_by end;
-        over = λ done.
-            let over = begun.over done in
-            absurd (mover_goes mv.kind may (subst (λ (t : ℕ). HasStatus st t Done) same (subst (HasStatus st a.task) over.0 begun.has)));
-      }
+      status = status_after end;
+      has = subst (λ (t : ℕ). HasStatus after t (status_after end)) (sym same) own;
+      begun = begun_by end;
+      over = λ done.
+          let over = begun.over done in
+          absurd (mover_goes mv.kind may (subst (λ (t : ℕ). HasStatus st t Done) same (subst (HasStatus st a.task) over.0 begun.has)));
+    }
     | inr apart ↦
         let kept = other p lim well st mv.kind mv.task may stands a.task begun.has.0 apart begun.has.1 in
         record { status = begun.status; has = (kept.now, kept.there, kept.status ∙ begun.has.2); begun = begun.begun; over = begun.over }
@@ -233,9 +231,10 @@ module _ (p : Program) (lim : Bounds) (well : IsWellFormed p) (rows : List TaskR
       let one = ap made_by is in
       let before = noted_before.makers_count in
       let number = alone.made c is in
-      let longer = length-append notes.makers (Some (length notes.lows) ∷ []) in
-      (omega (arith, tasks, one, before, longer),
-      makers_put stages notes.makers noted_before.makers b c (number ∙ sym before) (b_makes ∙ ap made_task is) (length notes.lows) noted_before.lows_count)
+      let longer = length-append notes.makers (Some (length notes.lows) ∷ []) in (
+        omega (arith, tasks, one, before, longer),
+        makers_put stages notes.makers noted_before.makers b c (number ∙ sym before) (b_makes ∙ ap made_task is) (length notes.lows) noted_before.lows_count,
+      )
   counted (ends.Waits on) is = counted_on (ends.Waits on) is refl refl
   counted (ends.Joins on) is = counted_on (ends.Joins on) is refl refl
   counted (ends.Done value) is = counted_on (ends.Done value) is refl refl

@@ -1,6 +1,5 @@
 -- What the node of an entry gives and asks for, once the entry was noted.
-use Rattle.std.proofs.Common.{◌≡◌, ◌<◌, ◌++◌, ◌↔◌, ◌⊎◌, inl, inr, ℕ, Bool, true, false, List, [], ◌∷◌, length, map, Option, None, Some, IsTrue, refl, sym, ap, ◌∙◌, subst}
-use Rattle.std.specs.Prelude.{slice_get}
+use Rattle.std.proofs.Common.{◌≡◌, ◌++◌, ◌↔◌, ◌⊎◌, inl, inr, ℕ, true, false, List, length, map, Option, refl, sym, ◌∙◌, subst}
 use Rattle.std.specs.List.{Contains}
 use Rattle.std.proofs.lemmas.Bool.{false≢true}
 use Rattle.std.proofs.lemmas.List.Elements.{Contains-append_cases, Contains-append_left, Contains-append_right}
@@ -19,12 +18,10 @@ use Rattle.span_profile.specs.Recorders.{node_with}
 use Rattle.span_profile.specs.declared.heaviest_chain.key.Key.{Key}
 use Rattle.span_profile.specs.declared.heaviest_chain.key.Key.TheVariants.{Task}
 use Rattle.span_profile.specs.declared.recording.EntryKeys.{EntryKeys}
-use Rattle.span_profile.specs.heaviest_chain.Nodes.{Node}
 use Rattle.span_profile.specs.inner.Shows.{Shows}
 use Rattle.held_span.specs.Freed.{RunEntry}
-use Rattle.held_span.specs.Ways.{IsOnWay, RowsInterfere}
 use Rattle.held_span.specs.declared.freeing.Freeing.{Freeing}
-use Rattle.held_span.specs.inner.Freeing.{IsFreed, IsNotedBy, Walks, mark_keys}
+use Rattle.held_span.specs.inner.Freeing.{IsNotedBy, mark_keys}
 use Rattle.held_span.specs.inner.Keys.{mark_key}
 use Rattle.held_span.specs.inner.Spanning.{GivesMark, IsBelow, ShowsStage}
 use Rattle.held_span.proofs.SharedKeys.{AsksMark, AsksWay}

@@ -1,7 +1,7 @@
 -- What numbers of effects mean for keys and for sets.
-use Rattle.std.proofs.Common.{◌≡◌, ◌<◌, ◌+◌, ◌^◌, ◌++◌, ℕ, List, length, map, Result, Ok, Err, Some, sym, ap, ◌∙◌, subst, arith}
+use Rattle.std.proofs.Common.{◌≡◌, ◌<◌, ◌+◌, ◌^◌, ◌++◌, ℕ, List, length, map, Some, sym, ap, ◌∙◌, subst, arith}
 use Rattle.std.specs.List.{All, Contains}
-use Rattle.std.specs.Prelude.{OnOk, slice_index_or, slice_set}
+use Rattle.std.specs.Prelude.{slice_index_or, slice_set}
 use Rattle.std.proofs.lemmas.List.Elements.{Contains-get_or}
 use Rattle.effect_marks.specs.Marks.{left_by, seen_by}
 use Rattle.effect_marks.specs.declared.marks.EffectMark.{EffectMark}

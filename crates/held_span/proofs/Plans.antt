@@ -1,8 +1,7 @@
 -- The next entry of a journal that is taken entry by entry.
-use Rattle.std.proofs.Common.{◌≡◌, ◌<◌, ◌≤◌, ◌+◌, ◌++◌, ℕ, List, [], ◌∷◌, length, Option, None, Some, append_assoc, refl, sym, ap, ◌∙◌, subst, arith}
+use Rattle.std.proofs.Common.{◌≡◌, ◌<◌, ◌++◌, ℕ, List, [], ◌∷◌, length, Option, None, Some, append_assoc, refl, sym, ap, ◌∙◌, subst, arith}
 use Rattle.std.specs.Prelude.{slice_get}
 use Rattle.std.proofs.lemmas.List.{length-map}
-use Rattle.std.proofs.lemmas.Option.{slice_get_within}
 use Rattle.seg_journal.specs.declared.journal.End.{End}
 use Rattle.seg_journal.specs.declared.journal.End.TheVariants as ends
 use Rattle.seg_journal.specs.declared.journal.Entry.{Entry}

@@ -1,17 +1,15 @@
 -- A key that a node gives and a later one asks for says that the later entry follows the earlier one.
-use Rattle.std.proofs.Common.{◌≡◌, ◌<◌, ◌↔◌, ◌⊎◌, inl, inr, ℕ, Bool, true, false, cond, List, length, map, Some, IsTrue, refl, sym, ap, ◌∙◌, subst, arith}
+use Rattle.std.proofs.Common.{◌≡◌, ◌<◌, ◌⊎◌, inl, inr, ℕ, Bool, true, false, cond, List, length, Some, IsTrue, refl, sym, ap, ◌∙◌, subst, arith}
 use Rattle.std.specs.Prelude.{slice_get}
 use Rattle.std.specs.List.{Contains}
 use Rattle.std.specs.Option.{option_map}
 use Rattle.std.proofs.lemmas.Option.{slice_get-map}
 use Rattle.prefix_tree.specs.declared.part.Part.{Part}
 use Rattle.seg_journal.specs.declared.moves.Kind.TheVariants.{Admit}
-use Rattle.effect_sets.specs.Interference.{SomeInterfere}
 use Rattle.twe_machine.specs.declared.state.TaskRow.{TaskRow}
 use Rattle.twe_machine.proofs.lists.Places.{below_there}
 use Rattle.effect_marks.proofs.Sharing.{shared-iff}
 use Rattle.effect_marks.specs.Marks.{AreMarksOf, SharesMark, left_by, seen_by}
-use Rattle.effect_marks.specs.Rivals.{EffectList}
 use Rattle.effect_marks.specs.declared.marks.EffectMark.{EffectMark}
 use Rattle.effect_marks.specs.declared.marks.EffectMarks.{EffectMarks}
 use Rattle.span_profile.specs.LeadsTo.{LeadsTo}

@@ -1,5 +1,5 @@
 -- The held span of a run whose entries were all taken.
-use Rattle.std.proofs.Common.{◌≡◌, ◌<◌, ◌≤◌, ◌+◌, ◌++◌, ℕ, zero, suc, List, [], ◌∷◌, length, get_or, drop, take, Some, refl, sym, ap, ◌∙◌, subst, arith, add-one}
+use Rattle.std.proofs.Common.{◌≡◌, ◌<◌, ◌≤◌, ◌+◌, ℕ, zero, suc, List, [], ◌∷◌, length, get_or, drop, refl, sym, ap, ◌∙◌, subst, arith}
 use Rattle.std.specs.Prelude.{slice_get, sum_by}
 use Rattle.std.specs.List.{AllZip}
 use Rattle.std.proofs.lemmas.List.Sums.{sum_by-cons}
@@ -11,7 +11,7 @@ use Rattle.twe_program.specs.Program.{Program}
 use Rattle.twe_machine.specs.declared.state.State.{State}
 use Rattle.twe_machine.specs.declared.state.TaskRow.{TaskRow}
 use Rattle.twe_machine.specs.Moves.{start_of}
-use Rattle.twe_machine.specs.Runs.{IsReached, Legal, counted}
+use Rattle.twe_machine.specs.Runs.{IsReached, Legal}
 use Rattle.effect_marks.specs.Marks.{AreMarksOf}
 use Rattle.effect_marks.specs.declared.marks.EffectMarks.{EffectMarks}
 use Rattle.run_advice.specs.Advice.{IsCountedRun}
@@ -99,7 +99,7 @@ module _ (tree : List (List Part)) (marks : EffectMarks) where
     all_below other is =
         kept-as-heavy (Leads (FollowsFreed rows) stages) (Leads SharesKey nodes) spanned.covers (length stages) (weight_at stage_weight stages) span kept_below other is
 
-pub held_of : (p : Program) (lim : Bounds) (moves : List Move) (journal : List Entry) (st : State) → IsCountedRun p lim moves journal st → (marks : EffectMarks) (run : Spanning) (rest : List Entry)
+abbrev pub held_of : (p : Program) (lim : Bounds) (moves : List Move) (journal : List Entry) (st : State) → IsCountedRun p lim moves journal st → (marks : EffectMarks) (run : Spanning) (rest : List Entry)
     → (s : IsSpanning p lim marks st.tasks journal rest run) → (work span : ℕ) (chain : List ℕ) → IsHeaviest SharesKey weight_of s.nodes work span chain → IsHeldSpan p lim moves span
 held_of p lim moves journal st counted_run marks run rest s work span chain heaviest = record {
   journal = journal;

@@ -1,12 +1,11 @@
 -- The start of a run.
-use Rattle.std.proofs.Common.{◌≡◌, ◌<◌, ◌≤◌, ◌++◌, ℕ, zero, suc, List, [], ◌∷◌, length, None, Some, inl, refl, sym, ap, ◌∙◌, subst, arith}
+use Rattle.std.proofs.Common.{◌≡◌, ℕ, zero, suc, List, [], ◌∷◌, length, None, Some, inl, refl, sym, ◌∙◌, subst, arith}
 use Rattle.std.specs.Prelude.{slice_get}
 use Rattle.seg_journal.specs.declared.journal.Entry.{Entry}
 use Rattle.twe_base.specs.Limits.{Bounds}
 use Rattle.twe_program.specs.Program.{Program}
 use Rattle.wait_graph.specs.Chain.{none}
-use Rattle.wait_graph.specs.declared.tasks.Link.{Link}
-use Rattle.wait_graph.specs.Waiting.{WaitsOn, WaitsOnUnlessDone}
+use Rattle.wait_graph.specs.Waiting.{WaitsOn}
 use Rattle.twe_machine.specs.declared.state.State.{State}
 use Rattle.twe_machine.specs.declared.state.TaskRow.{TaskRow}
 use Rattle.twe_machine.specs.declared.state.TaskStatus.TheVariants.{Enabled}

@@ -1,5 +1,5 @@
 -- A run that is under way takes its next entry.
-use Rattle.std.proofs.Common.{◌≡◌, ◌≢◌, ◌<◌, ◌≤◌, ◌+◌, ◌^◌, ◌++◌, ◌⊎◌, inl, inr, ℕ, List, [], ◌∷◌, length, map, Option, None, Some, Result, Ok, Err, refl, sym, ap, ◌∙◌, subst, arith}
+use Rattle.std.proofs.Common.{◌≡◌, ◌≢◌, ◌<◌, ◌≤◌, ◌^◌, ◌++◌, ◌⊎◌, ℕ, List, [], ◌∷◌, length, Option, None, Some, Result, Ok, Err, refl, sym, ap, ◌∙◌, subst, arith}
 use Rattle.std.specs.Prelude.{OnOk, slice_get, sum_by}
 use Rattle.std.specs.List.{AllZip, Contains}
 use Rattle.std.proofs.lemmas.List.Sums.{sum_by-cons, sum_by_push}
@@ -20,10 +20,10 @@ use Rattle.twe_machine.specs.Changes.{LeavesAlone, made_by}
 use Rattle.twe_machine.specs.Legal.{MayMove, MayTake}
 use Rattle.twe_machine.specs.Moves.{move_result, start_of}
 use Rattle.twe_machine.proofs.standing.Later.{Later}
-use Rattle.twe_machine.specs.Runs.{IsReached, state_after}
+use Rattle.twe_machine.specs.Runs.{IsReached}
 use Rattle.twe_machine.proofs.standing.Standing.{Stands}
 use Rattle.twe_machine.proofs.tasks.Movers.{mover_there}
-use Rattle.effect_marks.specs.Marks.{left_by, seen_by}
+use Rattle.effect_marks.specs.Marks.{seen_by}
 use Rattle.effect_marks.specs.declared.marks.EffectMark.{EffectMark}
 use Rattle.effect_marks.specs.declared.marks.EffectMarks.{EffectMarks}
 use Rattle.span_profile.proofs.FuelTaken.{work_fits}

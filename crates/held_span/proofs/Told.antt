@@ -1,6 +1,6 @@
 -- What the notes on the entries of a run tell of its holds.
-use Rattle.std.proofs.Common.{◌≡◌, ◌<◌, ◌≤◌, ◌+◌, ◌-◌, ◌++◌, ◌⊎◌, inl, inr, ℕ, Bool, true, false, cond, List, [], ◌∷◌, length, length-append, get_or, map, Option, None, Some, refl, sym, ap, ◌∙◌, subst, arith}
-use Rattle.std.specs.Prelude.{MatchOption, slice_get, slice_index, unwrap_or}
+use Rattle.std.proofs.Common.{◌≡◌, ◌<◌, ◌≤◌, ◌+◌, ◌-◌, ◌++◌, ◌⊎◌, inl, inr, ℕ, zero, suc, Bool, true, false, cond, List, [], ◌∷◌, length, length-append, get_or, map, Option, None, Some, refl, sym, ap, ◌∙◌, subst, arith}
+use Rattle.std.specs.Prelude.{slice_get, slice_index, unwrap_or}
 use Rattle.std.specs.List.{All, AllZip, Contains}
 use Rattle.std.specs.List.Sorted.{IsStrictlyIncreasing}
 use Rattle.std.proofs.Math.Seq.{get_or-append_seam}
@@ -22,15 +22,13 @@ use Rattle.twe_machine.proofs.lists.Places.{below_there}
 use Rattle.span_profile.proofs.Lists.{zip_first, zip_second}
 use Rattle.span_profile.proofs.Tracking.{mover_row}
 use Rattle.span_profile.specs.declared.heaviest_chain.chains.Heaviest.{Heaviest}
-use Rattle.span_profile.specs.heaviest_chain.Chains.{Leads}
 use Rattle.span_profile.specs.heaviest_chain.LastBefore.{StartsAfter}
-use Rattle.span_profile.specs.heaviest_chain.Nodes.{SharesKey}
 use Rattle.held_span.specs.Freed.{FreesFrom, RunEntry, stage_of, stages_from}
-use Rattle.held_span.specs.Holds.{AreHolds, IsHeldFor, IsHold, Makes, held_entry}
+use Rattle.held_span.specs.Holds.{AreHolds, IsHeldFor, IsHold, held_entry}
 use Rattle.held_span.specs.declared.hold.Hold.{Hold}
 use Rattle.held_span.specs.declared.notes.Notes.{Notes}
 use Rattle.held_span.specs.inner.Noting.{holder_by, low_at, maker_by, maker_found}
-use Rattle.held_span.specs.inner.Told.{Did, HoldsBelow, IsNoHold, IsTold, before_at, before_found, done_found, done_task, found_list}
+use Rattle.held_span.specs.inner.Told.{Did, HoldsBelow, IsFoundHold, IsNoHold, IsTold, before_at, before_found, done_found, done_task, found_list, time_at}
 use Rattle.held_span.proofs.Plans.{admits_end, strand_done, strand_task}
 
 -- The entries of a legal journal did what their strands say.
@@ -46,6 +44,12 @@ did p lim st entry may is =
 pub did_all : (p : Program) (lim : Bounds) (st : State) (entries : List Entry) → LegalFrom p lim st entries → AllZip Did (stages_from p lim st entries) entries
 did_all p lim st [] legal = tt
 did_all p lim st (entry ∷ entries) legal = (did p lim st entry legal.0 legal.1, did_all p lim (move_result p lim st entry.mv).0 entries legal.2)
+
+-- a time that was looked up
+pub time_is : (times : List ℕ) (number : ℕ) → time_at times number ≡ slice_index times number
+time_is [] number = refl
+time_is (time ∷ times) zero = refl
+time_is (time ∷ times) (suc number) = time_is times number
 
 -- the maker that was noted
 maker_there : (makers : List (Option ℕ)) (kind : Kind) (task maker : ℕ) → kind ≡ Admit → slice_get makers task ≡ Some (Some maker) → maker_by makers kind task ≡ Some maker
@@ -196,8 +200,7 @@ module _ (rows : List TaskRow) (stages : List RunEntry) (starts ends : List ℕ)
     further : All (λ (k : ℕ). k < n + 1) (map held_entry holds)
     further = All-weaker (λ (k : ℕ). k < n) (λ (k : ℕ). k < n + 1) (λ k less. omega (arith, less)) (map held_entry holds) old.below
 
-    pub holds_on : (found : Option Hold) → MatchOption found (IsNoHold stages starts ends n) (λ hold. (hold.entry ≡ n) × IsHold rows stages starts ends hold)
-        → HoldsBelow rows stages starts ends (n + 1) (holds ++ found_list found)
+    pub holds_on : (found : Option Hold) → IsFoundHold rows stages starts ends n found → HoldsBelow rows stages starts ends (n + 1) (holds ++ found_list found)
     holds_on None none = subst (HoldsBelow rows stages starts ends (n + 1)) (sym (append-nil holds)) (record {
       each = old.each;
       in_order = old.in_order;

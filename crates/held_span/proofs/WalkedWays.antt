@@ -1,9 +1,9 @@
 -- The tasks that a walk passes are on the way, and each other task on the way is followed already by one that it passes.
-use Rattle.std.proofs.Common.{◌≡◌, ◌≢◌, ◌<◌, ◌≤◌, ◌⊎◌, inl, inr, ℕ, List, [], ◌∷◌, ◌++◌, Some, refl, sym, subst, arith}
+use Rattle.std.proofs.Common.{◌≡◌, ◌≢◌, ◌<◌, ◌≤◌, inl, inr, ℕ, List, [], ◌∷◌, ◌++◌, Some, subst, arith}
 use Rattle.std.specs.Prelude.{slice_get}
 use Rattle.std.specs.List.{Contains}
 use Rattle.std.proofs.lemmas.Bool.{cases_eq, cases_lt}
-use Rattle.wait_graph.specs.Chain.{Chain, none, more}
+use Rattle.wait_graph.specs.Chain.{more}
 use Rattle.wait_graph.specs.declared.tasks.Link.{Link}
 use Rattle.wait_graph.specs.Waiting.{IsDone, WaitsFor, WaitsOn, WaitsOnUnlessDone}
 use Rattle.wait_graph.proofs.ChainLemmas.{Chain-append}

@@ -25,8 +25,8 @@ pub record IsHeldSpan (p : Program) (lim : Bounds) (moves : List Move) (span : �
   pub heaviest : (other : List ℕ) → IsChainOf (FollowsFreed st.tasks) (stages p lim journal) other
       → chain_weight stage_weight (stages p lim journal) other ≤ span
 
--- The held span; the earliest times at which the entries that count can start and end, if what an entry follows has to end before;
--- and the admissions that were held then.
+-- The held span; the earliest times at which the entries that count can start and end, if what an entry follows has to end
+-- before; and the admissions that were held then.
 pub record IsHeldProfile (p : Program) (lim : Bounds) (moves : List Move) (span : ℕ) (starts ends : List ℕ)
     (holds : List Hold) : Type 0 where
   pub held : IsHeldSpan p lim moves span

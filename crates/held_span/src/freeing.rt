@@ -41,8 +41,8 @@ impl Freeing {
         })
     }
 
-    /// Adds the keys of what frees the admission of a task, and returns the lowest enabled task whose effects interfere with its own,
-    /// if there is one.
+    /// Adds the keys of what frees the admission of a task, and returns the lowest enabled task whose effects interfere with its
+    /// own, if there is one.
     fn free(
         &mut self,
         alloc: Global,

@@ -42,7 +42,7 @@ impl Notes {
     }
 
     /// Notes the next entry, which ended so, and the lowest task that held what it admits, if there is one.
-    pub(crate) fn add(&mut self, end: End, low: Option<u32>) -> Result<(), Memory>
+    pub(crate) fn note_entry(&mut self, end: End, low: Option<u32>) -> Result<(), Memory>
         ensures { OnOk result (self.new ≡ noted self.old end low) }
     {
         let number = self.lows.len() as u64;

@@ -114,7 +114,7 @@ impl Spanning {
         let low = self
             .freeing
             .note(alloc, marks, &self.st, mv.task, &mut keys)?;
-        self.notes.add(keys.end, low)?;
+        self.notes.note_entry(keys.end, low)?;
         self.chains
             .add(keys.weight, keys.asks.as_slice(), keys.gives.as_slice())
     }
@@ -147,7 +147,10 @@ pub fn held_profile(
     let heaviest = chains.heaviest(alloc)?;
     let holds = holds_of(alloc, journal.as_slice(), &notes, &heaviest)?;
     let Heaviest {
-        span, starts, ends, ..
+        span,
+        starts,
+        ends,
+        ..
     } = heaviest;
     Ok(HeldProfile {
         span,

@@ -134,7 +134,10 @@ pub fn draw(alloc: Global, p: &Prog, lim: Limits, moves: &[Move]) -> Result<Pict
     ensures illegal { (n : ℕ) (why : Reason) → IsErrOf result (Illegal n why) → IsFirstIllegal p.now lim moves.now n why }
 {
     let Profile {
-        work, span, chain, ..
+        work,
+        span,
+        chain,
+        ..
     } = profile(alloc, p, lim, moves)?;
     let HeldProfile {
         span: held,

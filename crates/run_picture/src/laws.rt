@@ -19,43 +19,51 @@ ghost use Rattle.run_picture.specs.declared.bars.Mark.{Mark as AnyMark};
 /// Each entry that counts has exactly one bar, that of its number. The bar shows what the entry did, and is as long as it
 /// weighs.
 pub fn each_entry_has_one_bar()
-    ensures shows { (p : Program) (lim : Bounds) (moves : List Move) (work span held : ℕ) (chain : List ℕ) (bars : List AnyMark)
-        (tasks : List TaskRow) (holds : List AnyHold) → (picture : IsPicture p lim moves work span held chain bars tasks holds)
+    ensures shows { (p : Program) (lim : Bounds) (moves : List Move) (work span held : ℕ) (chain : List ℕ)
+        (bars : List AnyMark) (tasks : List TaskRow) (holds : List AnyHold)
+        → (picture : IsPicture p lim moves work span held chain bars tasks holds)
         → Shows 0 (strands p lim (counted picture.drawn.journal)) bars }
-    ensures weighs { (p : Program) (lim : Bounds) (moves : List Move) (work span held : ℕ) (chain : List ℕ) (bars : List AnyMark)
-        (tasks : List TaskRow) (holds : List AnyHold) → (picture : IsPicture p lim moves work span held chain bars tasks holds) → (number : ℕ) (bar : AnyMark)
+    ensures weighs { (p : Program) (lim : Bounds) (moves : List Move) (work span held : ℕ) (chain : List ℕ)
+        (bars : List AnyMark) (tasks : List TaskRow) (holds : List AnyHold)
+        → (picture : IsPicture p lim moves work span held chain bars tasks holds) → (number : ℕ) (bar : AnyMark)
         → slice_get bars number ≡ Some bar
         → bar.ends ≡ bar.begins + weight_at weight_of (strands p lim (counted picture.drawn.journal)) number }
 {}
 
 /// What leads to another entry, or frees it, ends before that begins.
 pub fn what_leads_ends_first()
-    ensures leads { (p : Program) (lim : Bounds) (moves : List Move) (work span held : ℕ) (chain : List ℕ) (bars : List AnyMark)
-        (tasks : List TaskRow) (holds : List AnyHold) → (picture : IsPicture p lim moves work span held chain bars tasks holds)
+    ensures leads { (p : Program) (lim : Bounds) (moves : List Move) (work span held : ℕ) (chain : List ℕ)
+        (bars : List AnyMark) (tasks : List TaskRow) (holds : List AnyHold)
+        → (picture : IsPicture p lim moves work span held chain bars tasks holds)
         → (i j : ℕ) (first second : AnyMark) → slice_get bars i ≡ Some first → slice_get bars j ≡ Some second
         → Leads LeadsTo (strands p lim (counted picture.drawn.journal)) i j → first.ends ≤ second.begins }
-    ensures frees { (p : Program) (lim : Bounds) (moves : List Move) (work span held : ℕ) (chain : List ℕ) (bars : List AnyMark)
-        (tasks : List TaskRow) (holds : List AnyHold) → (picture : IsPicture p lim moves work span held chain bars tasks holds)
+    ensures frees { (p : Program) (lim : Bounds) (moves : List Move) (work span held : ℕ) (chain : List ℕ)
+        (bars : List AnyMark) (tasks : List TaskRow) (holds : List AnyHold)
+        → (picture : IsPicture p lim moves work span held chain bars tasks holds)
         → (i j : ℕ) (first second : AnyMark) → slice_get bars i ≡ Some first → slice_get bars j ≡ Some second
         → Leads (Frees (held_rows picture)) (stages p lim (counted picture.drawn.journal)) i j → first.ends ≤ second.begins }
 {}
 
 /// The last bar ends at the held span, and the lengths of all bars add up to the work.
 pub fn a_run_ends_at_its_held_span()
-    ensures last { (p : Program) (lim : Bounds) (moves : List Move) (work span held : ℕ) (chain : List ℕ) (bars : List AnyMark)
-        (tasks : List TaskRow) (holds : List AnyHold) → IsPicture p lim moves work span held chain bars tasks holds → end_of_bars bars ≡ held }
-    ensures sum { (p : Program) (lim : Bounds) (moves : List Move) (work span held : ℕ) (chain : List ℕ) (bars : List AnyMark)
-        (tasks : List TaskRow) (holds : List AnyHold) → IsPicture p lim moves work span held chain bars tasks holds → sum_by bar_length bars ≡ work }
+    ensures last { (p : Program) (lim : Bounds) (moves : List Move) (work span held : ℕ) (chain : List ℕ)
+        (bars : List AnyMark) (tasks : List TaskRow) (holds : List AnyHold)
+        → IsPicture p lim moves work span held chain bars tasks holds → end_of_bars bars ≡ held }
+    ensures sum { (p : Program) (lim : Bounds) (moves : List Move) (work span held : ℕ) (chain : List ℕ)
+        (bars : List AnyMark) (tasks : List TaskRow) (holds : List AnyHold)
+        → IsPicture p lim moves work span held chain bars tasks holds → sum_by bar_length bars ≡ work }
 {}
 
 /// The entry that a bar names as the previous one, or as the giver of its value, leads to that of the bar.
 pub fn links_are_of_entries()
-    ensures previous { (p : Program) (lim : Bounds) (moves : List Move) (work span held : ℕ) (chain : List ℕ) (bars : List AnyMark)
-        (tasks : List TaskRow) (holds : List AnyHold) → (picture : IsPicture p lim moves work span held chain bars tasks holds)
+    ensures previous { (p : Program) (lim : Bounds) (moves : List Move) (work span held : ℕ) (chain : List ℕ)
+        (bars : List AnyMark) (tasks : List TaskRow) (holds : List AnyHold)
+        → (picture : IsPicture p lim moves work span held chain bars tasks holds)
         → (number before : ℕ) (bar : AnyMark) → slice_get bars number ≡ Some bar → bar.previous ≡ Some before
         → Leads LeadsTo (strands p lim (counted picture.drawn.journal)) before number }
-    ensures giver { (p : Program) (lim : Bounds) (moves : List Move) (work span held : ℕ) (chain : List ℕ) (bars : List AnyMark)
-        (tasks : List TaskRow) (holds : List AnyHold) → (picture : IsPicture p lim moves work span held chain bars tasks holds)
+    ensures giver { (p : Program) (lim : Bounds) (moves : List Move) (work span held : ℕ) (chain : List ℕ)
+        (bars : List AnyMark) (tasks : List TaskRow) (holds : List AnyHold)
+        → (picture : IsPicture p lim moves work span held chain bars tasks holds)
         → (number before : ℕ) (bar : AnyMark) → slice_get bars number ≡ Some bar → bar.giver ≡ Some before
         → Leads LeadsTo (strands p lim (counted picture.drawn.journal)) before number }
 {}
@@ -63,7 +71,8 @@ pub fn links_are_of_entries()
 /// The time of a hold is that between the bar of the entry that made the task and the bar of its admission, which begins as that
 /// of the entry that freed it ends.
 pub fn a_hold_is_between_bars()
-    ensures { (p : Program) (lim : Bounds) (moves : List Move) (work span held : ℕ) (chain : List ℕ) (bars : List AnyMark)
-        (tasks : List TaskRow) (holds : List AnyHold) → IsPicture p lim moves work span held chain bars tasks holds
+    ensures { (p : Program) (lim : Bounds) (moves : List Move) (work span held : ℕ) (chain : List ℕ)
+        (bars : List AnyMark) (tasks : List TaskRow) (holds : List AnyHold)
+        → IsPicture p lim moves work span held chain bars tasks holds
         → All (StandsBetween bars) holds }
 {}

@@ -1,8 +1,8 @@
 //! A picture of a run, as data: one bar for each entry of its journal.
 //!
 //! `specs/` says where each bar stands. A row is a task, and time is virtual: an entry takes as long as its weight, and begins
-//! when all entries that lead to it, or free it, have ended. A bar knows the entry from which its task comes and the one that gave
-//! it a value, and a picture the admissions that were held. How a picture is written is left to the crate above.
+//! when all entries that lead to it, or free it, have ended. A bar knows the entry from which its task comes and the one that
+//! gave it a value, and a picture the admissions that were held. How a picture is written is left to the crate above.
 #![tactic(auto)]
 
 mod bars;

@@ -27,7 +27,8 @@ abbrev pub column_after : Option ℕ → ℕ
 column_after None = 0
 column_after (Some number) = number + 1
 
--- since when the admission of a bar was held: the time of the hold before it, or the column after that of the entry that made its task
+-- since when the admission of a bar was held: the time of the hold before it, or the column after that of the entry that made
+-- its task
 abbrev pub held_begin : AxisKind → Mark → Hold → ℕ
 held_begin Time bar hold = bar.begins - hold.time
 held_begin Order bar hold = column_after bar.previous

@@ -28,10 +28,7 @@ fn push_held_box(
     ensures { OnOk result (text.new ≡ text.old ++ held_box p.now tasks.now axis hold.now bar.now row) }
 {
     let title = held_title(alloc, p, tasks, hold)?;
-    let (from, until) = (
-        held_begin(axis.kind, bar, hold),
-        bar_begin(axis.kind, bar),
-    );
+    let (from, until) = (held_begin(axis.kind, bar, hold), bar_begin(axis.kind, bar));
     push_titled_box(
         text,
         alloc,

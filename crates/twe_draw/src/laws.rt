@@ -19,7 +19,8 @@ ghost use Rattle.twe_draw.specs.declared.words.AxisKind.{AxisKind as AnyKind};
 /// A picture is one element whose tags nest, whatever the run is and whichever of its tasks are shown.
 pub fn a_picture_nests()
     ensures { (kind : AnyKind) (p : Program) (shown : List Bool) (work span held : ℕ) (chain : List ℕ)
-        (bars : List AnyMark) (tasks : List TaskRow) (holds : List AnyHold) → IsDocument (codes "svg") (picture_text kind p shown work span held chain bars tasks holds) }
+        (bars : List AnyMark) (tasks : List TaskRow) (holds : List AnyHold)
+        → IsDocument (codes "svg") (picture_text kind p shown work span held chain bars tasks holds) }
 {}
 
 /// The bars of a picture are those of the entries whose tasks have a row, and each such entry has exactly one.
@@ -27,7 +28,8 @@ pub fn each_shown_entry_has_one_mark()
     ensures bars { (p : Program) (tasks : List TaskRow) (bars : List AnyMark) (rows : List (Option ℕ)) (axis : AnyAxis)
         → flat_map (bar_shown p tasks bars rows axis) bars ≡ flat_map (bar_shown p tasks bars rows axis) (marked rows bars) }
     ensures one { (p : Program) (lim : Bounds) (moves : List Move) (work span held : ℕ) (chain : List ℕ)
-        (bars : List AnyMark) (tasks : List TaskRow) (holds : List AnyHold) → IsPicture p lim moves work span held chain bars tasks holds
+        (bars : List AnyMark) (tasks : List TaskRow) (holds : List AnyHold)
+        → IsPicture p lim moves work span held chain bars tasks holds
         → (rows : List (Option ℕ)) (number row : ℕ) (bar : AnyMark)
         → slice_get bars number ≡ Some bar → row_at rows bar.task ≡ Some row → marks_of number (marked rows bars) ≡ 1 }
 {}

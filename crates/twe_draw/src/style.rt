@@ -92,9 +92,7 @@ fn push_hatch_opening(text: &mut Bytes) -> Result<(), Memory>
 fn push_hatch_stripes(text: &mut Bytes) -> Result<(), Memory>
     ensures { OnOk result (text.new ≡ text.old ++ hatch_stripes) }
 {
-    text.push_all(
-        b"<path class='stripe' d='M-1 7L7 -1M-1 1L1 -1M5 7L7 5'/></pattern></defs>\n",
-    )
+    text.push_all(b"<path class='stripe' d='M-1 7L7 -1M-1 1L1 -1M5 7L7 5'/></pattern></defs>\n")
 }
 
 /// Appends the colours.

@@ -46,8 +46,8 @@ abbrev pub Walks : Ways → Ways → Option ℕ → ℕ → List ℕ → Type 0
 Walks old new None t walk = (walk ≡ []) × (new ≡ old)
 Walks old new (Some s) t walk = IsWalk old s t walk × (new ≡ record { makers = old.makers; firsts = slice_set old.firsts t s })
 
--- These keys are added for the admission of t, of which this is the lowest holder: those of the marks that it sees, and those of the
--- tasks that the walk passes.
+-- These keys are added for the admission of t, of which this is the lowest holder: those of the marks that it sees, and those of
+-- the tasks that the walk passes.
 pub record IsFreed (marks : EffectMarks) (holders : Holders) (old new : Ways) (t : ℕ) (before after : List Key) (low : Option ℕ)
     : Type 0 where
   pub lowest : IsLowestOf (HoldsOne holders (seen_by marks t)) low

@@ -32,6 +32,15 @@ done_found (Some entry) = if is_done entry.end then Some entry.mv.task else None
 abbrev pub done_task : List Entry → ℕ → Option ℕ
 done_task journal number = done_found (slice_get journal number)
 
+-- a time that was looked up, and 0 if there is none
+abbrev pub time_found : Option ℕ → ℕ
+time_found None = 0
+time_found (Some time) = time
+
+-- the time of the entry of this number
+abbrev pub time_at : List ℕ → ℕ → ℕ
+time_at times number = time_found (slice_get times number)
+
 -- a list of what was found
 abbrev pub found_list : Option Hold → List Hold
 found_list None = []
@@ -40,6 +49,11 @@ found_list (Some hold) = hold ∷ []
 -- the entry of this number is no admission that was held
 abbrev pub IsNoHold : List RunEntry → List ℕ → List ℕ → ℕ → Type 0
 IsNoHold stages starts ends number = (task time : ℕ) → ¬ IsHeldFor stages starts ends number task time
+
+-- this is the hold of the entry of this number, or it is no admission that was held
+abbrev pub IsFoundHold : List TaskRow → List RunEntry → List ℕ → List ℕ → ℕ → Option Hold → Type 0
+IsFoundHold rows stages starts ends number None = IsNoHold stages starts ends number
+IsFoundHold rows stages starts ends number (Some hold) = (hold.entry ≡ number) × IsHold rows stages starts ends hold
 
 -- The entry of a journal did this.
 pub record Did (stage : RunEntry) (entry : Entry) : Type 0 where

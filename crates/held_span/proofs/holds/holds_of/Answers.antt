@@ -1,6 +1,5 @@
-use Rattle.std.proofs.Common.{◌+◌, List, arith, sym, subst}
+use Rattle.std.proofs.Common.{◌+◌, arith, sym, subst}
 use Rattle.span_profile.proofs.Lists.{zip_length}
-use Rattle.held_span.specs.declared.hold.Hold.{Hold}
 use Rattle.held_span.specs.inner.Told.{Did, HoldsBelow}
 use Rattle.held_span.proofs.Told.{holds_all, holds_on, no_holds}
 use Rattle.held_span.proofs.holds.holds_of.Goals as goal
@@ -8,7 +7,7 @@ use Rattle.held_span.proofs.holds.holds_of.Goals as goal
 pub loop-number-init : goal.loop-number-init
 loop-number-init c = λ rows stages told.
     let times = c.args.times.now in
-    subst (HoldsBelow rows stages times.starts times.ends 0) (sym c.new.ensures) (no_holds rows stages times.starts times.ends)
+    subst (HoldsBelow rows stages times.starts times.ends 0) (sym c.new-holds.ensures) (no_holds rows stages times.starts times.ends)
 
 pub loop-number-preserved : goal.loop-number-preserved
 loop-number-preserved c = λ rows stages told.

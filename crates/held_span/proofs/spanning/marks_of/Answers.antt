@@ -1,4 +1,4 @@
-use Rattle.std.proofs.Common.{◌≡◌, ◌<◌, ◌+◌, ◌^◌, length, ◌∙◌, subst, arith}
+use Rattle.std.proofs.Common.{arith}
 use Rattle.held_span.specs.inner.Spanning.{effect_lists}
 use Rattle.held_span.proofs.Marked.{left_below, seen_below}
 use Rattle.held_span.proofs.spanning.marks_of.Goals as goal

@@ -1,4 +1,4 @@
-use Rattle.std.proofs.Common.{◌≡◌, ◌++◌, ℕ, List, [], map, None, Some, refl, sym, ◌∙◌, subst}
+use Rattle.std.proofs.Common.{◌≡◌, ◌++◌, List, [], map, None, Some, refl, sym, ◌∙◌, subst}
 use Rattle.std.proofs.lemmas.List.{append-nil}
 use Rattle.effect_marks.specs.Marks.{seen_by}
 use Rattle.effect_marks.specs.declared.marks.EffectMark.{EffectMark}
@@ -28,4 +28,4 @@ returns-clause-freed c =
     let added = c.in_ok-push_marks.ensures ∙ (λ i. c.args.asks.now ++ map (mark_key (c.len-tasks.ensures i)) ((c.as_slice.ensures ∙ c.in_ok-seen.ensures) i)) in
     let lowest = subst (λ (l : List EffectMark). IsLowestOf (HoldsOne c.args.self.now.holders l) (Some c.in-Some.s)) seen c.in-Some.ensures in
     freed_back c.args.marks.now c.args.self.now.holders c.args.self.now.ways c.push_way.new.self c.args.t c.in-Some.s c.args.asks.now c.push_marks.new.keys c.push_way.new.keys
-    lowest added c.in_ok-push_way.ensures.walked c.in_ok-push_way.ensures.noted
+    lowest added c.in_ok-push_way-in-Some.ensures.walked c.in_ok-push_way-in-Some.ensures.noted

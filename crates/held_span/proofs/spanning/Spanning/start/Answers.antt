@@ -1,4 +1,4 @@
-use Rattle.std.proofs.Common.{refl, subst}
+use Rattle.std.proofs.Common.{subst}
 use Rattle.twe_program.specs.WellFormed.{IsWellFormed}
 use Rattle.span_profile.proofs.Tracking.{start_cells}
 use Rattle.held_span.proofs.Starts.{spans_first}

@@ -72,22 +72,22 @@ add-requires-clause-room c =
     let moved = c.in_ok-keys.ensures.moved in
     let first_end : c.in_ok-keys.keys.end ≡ r.2 =
     ap (λ (x : State × End). x.1) moved ∙ end_is c.args.p.now c.args.lim well c.args.marks.now r.0 r.1 c.args.mv r.2 r.3 c.args.self.now s in
-    has_room c.args.p.now c.args.lim well c.args.marks.now r.0 r.1 c.args.mv r.2 r.3 c.args.self.now s c.in_ok-keys.keys c.note-low.new.keys c.note-low.new.self c.take.new.st
+    has_room c.args.p.now c.args.lim well c.args.marks.now r.0 r.1 c.args.mv r.2 r.3 c.args.self.now s c.in_ok-keys.keys c.note.new.keys c.note.new.self c.take.new.st
     (ap (λ (x : State × End). x.0) moved) first_end (c.in_ok-keys.ensures.keys s.tree s.records) c.in_ok-low.ensures.weight c.in_ok-low.ensures.room c.in_ok-low.low c.in_ok-low.ensures.noted within
 
 pub returns : goal.returns
 returns c = λ rows before end rest s.
     let well = subst IsWellFormed c.p.view_is c.p.invariant in
     let moved = c.in_ok-keys.ensures.moved in
-    let last = c.note-low.new.keys in
+    let last = c.note.new.keys in
     let first_end : c.in_ok-keys.keys.end ≡ end =
     ap (λ (x : State × End). x.1) moved ∙ end_is c.args.p.now c.args.lim well c.args.marks.now rows before c.args.mv end rest c.args.self.now s in
-    let next : Spanning = record { st = c.take.new.st; recorder = c.take.new.self; freeing = c.note-low.new.self; notes = c.add.new.self; chains = c.add-2.new.self } in
-    let notes : c.add.new.self ≡ noted c.args.self.now.notes end c.in_ok-low.low =
-    c.in_ok-add.ensures ∙ ap (λ (e : End). noted c.args.self.now.notes e c.in_ok-low.low) (c.in_ok-low.ensures.end ∙ first_end) in
+    let next : Spanning = record { st = c.take.new.st; recorder = c.take.new.self; freeing = c.note.new.self; notes = c.note_entry.new.self; chains = c.add.new.self } in
+    let notes : c.note_entry.new.self ≡ noted c.args.self.now.notes end c.in_ok-low.low =
+    c.in_ok-note_entry.ensures ∙ ap (λ (e : End). noted c.args.self.now.notes e c.in_ok-low.low) (c.in_ok-low.ensures.end ∙ first_end) in
     let node : record { weight = last.weight; asks = c.as_slice.result.now; gives = c.as_slice-2.result.now } ≡ node_with last =
     λ i. record { weight = last.weight; asks = c.as_slice.ensures i; gives = c.as_slice-2.ensures i } in
-    spans_back c.args.p.now c.args.lim well c.args.marks.now rows before c.args.mv end rest c.args.self.now s c.add-2.result c.in_ok-keys.keys last c.note-low.new.self c.take.new.st
+    spans_back c.args.p.now c.args.lim well c.args.marks.now rows before c.args.mv end rest c.args.self.now s c.add.result c.in_ok-keys.keys last c.note.new.self c.take.new.st
     (ap (λ (x : State × End). x.0) moved) first_end (c.in_ok-keys.ensures.keys s.tree s.records) c.in_ok-low.ensures.weight c.in_ok-low.ensures.room c.in_ok-low.low c.in_ok-low.ensures.noted
     next refl refl notes (c.in_ok-keys.ensures.records s.tree s.records)
-    (subst (λ (n : Node). OnOk c.add-2.result (FrontHolds (s.nodes ++ n ∷ []) c.add-2.new.self)) node (c.add-2.ensures s.nodes s.front))
+    (subst (λ (n : Node). OnOk c.add.result (FrontHolds (s.nodes ++ n ∷ []) c.add.new.self)) node (c.add.ensures s.nodes s.front))
