@@ -49,8 +49,8 @@ IsLower a b = IsDeclaredBefore a.holder b.holder ⊎ ((a.holder ≡ b.holder) ×
 abbrev pub HeldMore : HeldPair → HeldPair → Type 0
 HeldMore a b = (b.time < a.time) ⊎ ((a.time ≡ b.time) × IsLower a.pair b.pair)
 
--- These are the pairs that held most, at most three, the one that held most first. A pair is left out only if there are three that
--- held more.
+-- These are the pairs that held most, at most three, the one that held most first. A pair is left out only if there are three
+-- that held more.
 pub record HeldMost (rows : List TaskRow) (holds : List Hold) (pairs : List HeldPair) : Type 0 where
   pub few : length pairs ≤ 3
   pub each : All (HasHeld rows holds) pairs

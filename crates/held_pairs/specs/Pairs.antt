@@ -1,6 +1,6 @@
--- Which pair of declared effects a hold counts for. A task may hold another for several pairs of their effects: the hold counts for
--- the first effect of the holder that interferes with one of the held task, and for the first of those. The effects of a task stand
--- in the order of its declaration, so their numbers are those of the declared ones.
+-- Which pair of declared effects a hold counts for. A task may hold another for several pairs of their effects: the hold counts
+-- for the first effect of the holder that interferes with one of the held task, and for the first of those. The effects of a task
+-- stand in the order of its declaration, so their numbers are those of the declared ones.
 use Rattle.std.specs.Prelude.{ℕ, Bool, List, Option, Some, option_and_then, position, slice_get}
 use Rattle.std.specs.List.{list_any}
 use Rattle.effect_sets.specs.declared.effects.Effect.{Effect}

@@ -1,8 +1,8 @@
 //! The pairs of declared effects that held tasks for longest.
 //!
 //! A hold is an admission that had to wait for another task. It counts for one pair of declared effects, and `specs/` says for
-//! which. Which admissions were held, by whom and for how long, comes from `held_span`; how a pair is written is left to the crates
-//! above.
+//! which. Which admissions were held, by whom and for how long, comes from `held_span`. How a pair is written is left to the
+//! crates above.
 #![tactic(auto)]
 
 mod laws;

@@ -43,10 +43,11 @@ fn first_three(alloc: Global, pairs: &[HeldPair]) -> Result<List<HeldPair>, Memo
     Ok(List::from(most))
 }
 
-/// The pairs of declared effects that held most in these holds of tasks that have these rows: at most three, the one that held for
-/// longest first. Of those that held as long the one with the lower numbers comes first.
+/// The pairs of declared effects that held most in these holds of tasks that have these rows: at most three, the one that held
+/// for longest first. Of those that held as long the one with the lower numbers comes first.
 ///
-/// A hold counts for one pair: for the first effect of the holder that interferes with one of the held task, and the first of those.
+/// A hold counts for one pair: for the first effect of the holder that interferes with one of the held task, and the first of
+/// those.
 pub fn held_pairs(
     alloc: Global,
     tasks: &[TaskRow],

@@ -31,7 +31,7 @@ use Rattle.twe_advise.specs.Words.{advise_usage_text, form_of}
 
 -- The answer, in this form, to legal moves of an accepted program under these limits, whose text has these declarations.
 pub data AdviceGiven (form : Form) (items : List Item) (p : Program) (lim : Bounds) (moves : List Move) : Answer → Type 0 where
-  -- what the run could gain is written, which effects held tasks most, and why the entries of its heaviest chain follow one another
+  -- what the run could gain is written, which effects held most, and why the entries of its heaviest chain follow one another
   advised : (work span held : ℕ) (chain : List ℕ) (works : List TaskWork) (steps : List ChainStep) (tasks : List TaskRow)
       (starts ends held_starts held_ends : List ℕ) (holds : List Hold) (pairs : List HeldPair) (paces : List Pace)
       → IsAdvice p lim moves work span chain works → HasSteps p lim moves chain steps

@@ -49,9 +49,11 @@ abbrev pub pair_row : Program → List Item → HeldPair → List ℕ
 pair_row p items held =
     number_column held.time
     ++ (number_column held.admissions
-    ++ (codes "  " ++ (effect_placed p items held.pair.holder ++ (codes " held " ++ (effect_placed p items held.pair.held ++ codes "\n")))))
+    ++ (codes "  "
+    ++ (effect_placed p items held.pair.holder ++ (codes " held " ++ (effect_placed p items held.pair.held ++ codes "\n")))))
 
 -- the table of pairs, which is left out if nothing was held
 abbrev pub holds_text : Program → List Item → List HeldPair → List ℕ
 holds_text p items [] = []
-holds_text p items (pair ∷ pairs) = codes "\n        held  admissions  effects that held most\n" ++ flat_map (pair_row p items) (pair ∷ pairs)
+holds_text p items (pair ∷ pairs) =
+    codes "\n        held  admissions  effects that held most\n" ++ flat_map (pair_row p items) (pair ∷ pairs)
