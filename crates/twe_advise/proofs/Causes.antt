@@ -2,11 +2,17 @@
 use Rattle.std.proofs.Common.{◌≡◌, ap, ℕ, List, sym, ◌∙◌, subst}
 use Rattle.twe_base.specs.Limits.{Bounds}
 use Rattle.seg_journal.specs.declared.moves.Move.{Move}
+use Rattle.twe_ast.specs.declared.item.Item.{Item}
 use Rattle.twe_program.specs.Program.{Program}
+use Rattle.twe_machine.specs.declared.state.TaskRow.{TaskRow}
 use Rattle.twe_io.specs.declared.answer.Answer.{Answer}
 use Rattle.twe_io.specs.declared.status.Status.TheVariants.{Done}
 use Rattle.twe_io.specs.Answers.{on_out}
-use Rattle.held_span.specs.HeldSpans.{IsHeldSpan}
+use Rattle.held_pairs.specs.MostHeld.{HeldMost}
+use Rattle.held_pairs.specs.declared.pair.HeldPair.{HeldPair}
+use Rattle.held_span.specs.HeldSpans.{IsHeldProfile}
+use Rattle.held_span.specs.declared.hold.Hold.{Hold}
+use Rattle.held_span.specs.declared.spanning.HeldProfile.{HeldProfile}
 use Rattle.run_advice.specs.Advice.{AreMadeTasks, IsAdvice}
 use Rattle.run_advice.specs.declared.advising.Advice.{Advice}
 use Rattle.span_profile.specs.Profiles.{HasEarliest}
@@ -19,24 +25,31 @@ use Rattle.twe_advise.specs.Forms.{advice_text}
 use Rattle.twe_advise.specs.inner.Given.{AdvisedBy}
 
 -- the parts of an answer with advice
-pub advised_by : (form : Form) (p : Program) (advice : Advice) (held : ℕ) (starts ends : List ℕ) (paces slice : List Pace) (text : List ℕ) (answer : Answer) → starts ≡ advice.profile.starts → ends ≡ advice.profile.ends
+pub advised_by : (form : Form) (items : List Item) (p : Program) (advice : Advice) (held : ℕ) (pairs : List HeldPair) (starts ends : List ℕ) (shown : List Item)
+    (paces slice : List Pace) (text : List ℕ) (answer : Answer)
+    → starts ≡ advice.profile.starts → ends ≡ advice.profile.ends → shown ≡ items
     → ArePaces starts ends worker_counts paces → slice ≡ paces
-    → text ≡ advice_text form p advice.profile.work advice.profile.span held slice advice.works advice.tasks advice.profile.starts advice.steps → answer ≡ on_out Done text
-    → AdvisedBy form p advice held answer
-advised_by form p advice held starts ends paces slice text answer starts_are ends_are are same is answer_is = (
-  paces,
-  subst (λ (s : List ℕ). ArePaces s advice.profile.ends worker_counts paces) starts_are (subst (λ (e : List ℕ). ArePaces starts e worker_counts paces) ends_are are),
-  answer_is
-      ∙ ap (on_out Done)
-      (is ∙ ap (λ (l : List Pace). advice_text form p advice.profile.work advice.profile.span held l advice.works advice.tasks advice.profile.starts advice.steps) same),
-)
+    → text ≡ advice_text form p shown advice.profile.work advice.profile.span held pairs slice advice.works advice.tasks advice.profile.starts advice.steps → answer ≡ on_out Done text
+    → AdvisedBy form items p advice held pairs answer
+advised_by form items p advice held pairs starts ends shown paces slice text answer starts_are ends_are shown_are are same is answer_is =
+    let written = λ (i : List Item) (l : List Pace).
+    advice_text form p i advice.profile.work advice.profile.span held pairs l advice.works advice.tasks advice.profile.starts advice.steps in (
+      paces,
+      subst (λ (s : List ℕ). ArePaces s advice.profile.ends worker_counts paces) starts_are (subst (λ (e : List ℕ). ArePaces starts e worker_counts paces) ends_are are),
+      answer_is ∙ ap (on_out Done) (is ∙ ap (λ (i : List Item). written i slice) shown_are ∙ ap (written items) same),
+    )
 
 -- an answer with the advice of these moves is the one that is due to them
-pub advice_given : (form : Form) (p : Program) (lim : Bounds) (moves : List Move) (advice : Advice) (held : ℕ) (answer : Answer)
+pub advice_given : (form : Form) (items : List Item) (p : Program) (lim : Bounds) (moves : List Move) (advice : Advice) (held : HeldProfile)
+    (pairs shown : List HeldPair) (tasks : List TaskRow) (holds : List Hold) (answer : Answer)
     → IsAdvice p lim moves advice.profile.work advice.profile.span advice.profile.chain advice.works → HasSteps p lim moves advice.profile.chain advice.steps
     → AreMadeTasks p lim moves advice.tasks → HasEarliest p lim moves advice.profile.span advice.profile.starts advice.profile.ends
-    → IsHeldSpan p lim moves held → AdvisedBy form p advice held answer → AdviceGiven form p lim moves answer
-advice_given form p lim moves advice held answer is steps tasks early holds advised =
+    → IsHeldProfile p lim moves held.span held.starts held.ends held.holds → tasks ≡ advice.tasks → holds ≡ held.holds → HeldMost tasks holds pairs → shown ≡ pairs
+    → AdvisedBy form items p advice held.span shown answer → AdviceGiven form items p lim moves answer
+advice_given form items p lim moves advice held pairs shown tasks holds answer is steps made early profile tasks_are holds_are most shown_are advised =
     let h = advice.profile in
-    subst (AdviceGiven form p lim moves) (sym advised.2)
-    (AdviceGiven.advised h.work h.span held h.chain advice.works advice.steps advice.tasks h.starts h.ends advised.0 is steps tasks early advised.1 holds)
+    let of_these = subst (λ (t : List TaskRow). HeldMost t held.holds shown) tasks_are
+    (subst (λ (l : List Hold). HeldMost tasks l shown) holds_are (subst (HeldMost tasks holds) (sym shown_are) most)) in
+    subst (AdviceGiven form items p lim moves) (sym advised.2)
+    (AdviceGiven.advised h.work h.span held.span h.chain advice.works advice.steps advice.tasks h.starts h.ends held.starts held.ends held.holds shown advised.0
+    is steps made early advised.1 profile of_these)

@@ -2,7 +2,9 @@
 use Rattle.std.specs.Prelude.{ℕ, List}
 use Rattle.seg_journal.specs.declared.moves.Move.{Move}
 use Rattle.twe_base.specs.Limits.{Bounds}
+use Rattle.twe_ast.specs.declared.item.Item.{Item}
 use Rattle.twe_program.specs.Program.{Program}
+use Rattle.text_answers.specs.Input.{program_part}
 use Rattle.text_programs.specs.Causes.{TextCause}
 use Rattle.journal_programs.specs.Due.{JournalDue}
 use Rattle.twe_io.specs.Ends.{Ends, EndsTell, SourceTells}
@@ -14,28 +16,35 @@ use Rattle.twe_machine.specs.declared.state.TaskRow.{TaskRow}
 use Rattle.span_profile.specs.Profiles.{HasEarliest}
 use Rattle.span_profile.specs.Reasons.{HasSteps}
 use Rattle.span_profile.specs.declared.reasons.ChainStep.{ChainStep}
-use Rattle.held_span.specs.HeldSpans.{IsHeldSpan}
+use Rattle.held_pairs.specs.MostHeld.{HeldMost}
+use Rattle.held_pairs.specs.declared.pair.HeldPair.{HeldPair}
+use Rattle.held_span.specs.HeldSpans.{IsHeldProfile}
+use Rattle.held_span.specs.declared.hold.Hold.{Hold}
 use Rattle.run_advice.specs.Advice.{AreMadeTasks, IsAdvice}
 use Rattle.run_advice.specs.declared.totals.TaskWork.{TaskWork}
 use Rattle.twe_advise.specs.declared.words.Form.{Form}
 use Rattle.twe_advise.specs.declared.paces.Pace.{Pace}
 use Rattle.twe_advise.specs.Forms.{advice_text}
+use Rattle.twe_advise.specs.Parameters.{AreDeclarations}
 use Rattle.twe_advise.specs.Paces.{ArePaces, worker_counts}
 use Rattle.twe_advise.specs.Words.{advise_usage_text, form_of}
 
--- The answer, in this form, to legal moves of an accepted program under these limits.
-pub data AdviceGiven (form : Form) (p : Program) (lim : Bounds) (moves : List Move) : Answer → Type 0 where
-  -- what the run could gain is written, and why the entries of its heaviest chain follow one another
+-- The answer, in this form, to legal moves of an accepted program under these limits, whose text has these declarations.
+pub data AdviceGiven (form : Form) (items : List Item) (p : Program) (lim : Bounds) (moves : List Move) : Answer → Type 0 where
+  -- what the run could gain is written, which effects held most, and why the entries of its heaviest chain follow one another
   advised : (work span held : ℕ) (chain : List ℕ) (works : List TaskWork) (steps : List ChainStep) (tasks : List TaskRow)
-      (starts ends : List ℕ) (paces : List Pace) → IsAdvice p lim moves work span chain works → HasSteps p lim moves chain steps
+      (starts ends held_starts held_ends : List ℕ) (holds : List Hold) (pairs : List HeldPair) (paces : List Pace)
+      → IsAdvice p lim moves work span chain works → HasSteps p lim moves chain steps
       → AreMadeTasks p lim moves tasks → HasEarliest p lim moves span starts ends → ArePaces starts ends worker_counts paces
-      → IsHeldSpan p lim moves held
-      → AdviceGiven form p lim moves (on_out Done (advice_text form p work span held paces works tasks starts steps))
+      → IsHeldProfile p lim moves held held_starts held_ends holds → HeldMost tasks holds pairs
+      → AdviceGiven form items p lim moves
+      (on_out Done (advice_text form p items work span held pairs paces works tasks starts steps))
 
 -- the answer to an input, in this form: to the text of a program, and after the first line that is exactly `%%` the text of a
 -- journal
 abbrev pub AdviceDue : Form → List ℕ → Answer → Type 0
-AdviceDue form input = JournalDue (AdviceGiven form) input
+AdviceDue form input answer =
+    (items : List Item) × AreDeclarations (program_part input) items × JournalDue (AdviceGiven form items) input answer
 
 -- why the program gives an answer, before it writes anything
 abbrev pub AdviceCause : {S : Type 0} → SourceTells S → List (List ℕ) → S → S → Answer → Type 0

@@ -57,8 +57,8 @@ json_task_of works number decl = comma_before number ++ json_task (total_of numb
 abbrev pub json_tasks : List TaskWork → ℕ → List Decl → List ℕ
 json_tasks works number decls = rows_by (json_task_of works) number decls
 
--- the object, with these objects of the chain
-abbrev pub json_text : List Decl → ℕ → ℕ → ℕ → List Pace → List TaskWork → List ℕ → List ℕ
-json_text decls work span held paces works chain =
-    ((((((json_head work span ++ json_held span held) ++ json_times work span paces) ++ codes "],\"tasks\":[")
-    ++ json_tasks works 0 decls) ++ codes "],\"chain\":[") ++ chain) ++ codes "]}\n"
+-- the object, with these objects of the pairs that held most and of the chain
+abbrev pub json_text : List Decl → ℕ → ℕ → ℕ → List Pace → List TaskWork → List ℕ → List ℕ → List ℕ
+json_text decls work span held paces works pairs chain =
+    ((((((((json_head work span ++ json_held span held) ++ json_times work span paces) ++ codes "],\"tasks\":[")
+    ++ json_tasks works 0 decls) ++ codes "],\"holds\":[") ++ pairs) ++ codes "],\"chain\":[") ++ chain) ++ codes "]}\n"

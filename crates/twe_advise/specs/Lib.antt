@@ -1,9 +1,12 @@
 pub mod Answers
 pub mod Chains
 pub mod Forms
+pub mod Holds
 pub mod Json
 pub mod JsonChains
+pub mod JsonHolds
 pub mod Paces
+pub mod Parameters
 pub mod Texts
 pub mod Words
 pub mod inner

@@ -9,7 +9,8 @@ ghost use Rattle.twe_advise.specs.inner.Given.{AdvisedBy};
 
 use crate::forms::advice_text;
 use crate::paces::paces_of;
-use crate::words::Form;
+use crate::request::Request;
+use held_pairs::{HeldPair, held_pairs};
 use held_span::held_profile;
 use run_advice::{Advice, advise};
 use seg_journal::{Limits, Move};
@@ -22,35 +23,39 @@ use twe_program::Prog;
 /// What the run of these moves could gain, or the number of the first that is not legal, counted from 1.
 pub(crate) fn advice_answer(
     alloc: Global,
-    form: Form,
+    request: &Request,
     p: &Prog,
     lim: Limits,
     moves: &[Move],
 ) -> Result<Answer, ReplayFail>
-    ensures given { IfOk result (AdviceGiven form p.now lim moves.now) }
+    ensures given { IfOk result (AdviceGiven request.now.form request.now.items p.now lim moves.now) }
     ensures illegal { (n : ℕ) (why : Why) → IsErrOf result (Illegal n why) → IsFirstIllegal p.now lim moves.now n why }
 {
     let advice = advise(alloc, p, lim, moves)?;
     let held = held_profile(alloc, p, lim, moves)?;
-    let answer = advised_answer(alloc, form, p, &advice, held.span)?;
+    let pairs = held_pairs(alloc, advice.tasks.as_slice(), held.holds.as_slice())?;
+    let answer = advised_answer(alloc, request, p, &advice, held.span, pairs.as_slice())?;
     Ok(answer)
 }
 
 /// The answer that has this advice, with the times of the paced timetables.
 fn advised_answer(
     alloc: Global,
-    form: Form,
+    request: &Request,
     p: &Prog,
     advice: &Advice,
     held: u64,
+    pairs: &[HeldPair],
 ) -> Result<Answer, Memory>
     requires few { CanBeSummed advice.now.works }
     requires both { length advice.now.profile.ends ≡ length advice.now.profile.starts }
-    ensures { IfOk result (AdvisedBy form p.now advice.now held) }
+    ensures { IfOk result (AdvisedBy request.now.form request.now.items p.now advice.now held pairs.now) }
 {
     let starts = advice.profile.starts.as_slice();
     let ends = advice.profile.ends.as_slice();
+    let items = request.items.as_slice();
     let paces = paces_of(alloc, starts, ends, &[2, 4, 8, 16, 64])?;
-    let text = advice_text(alloc, form, p, advice, held, paces.as_slice())?;
+    let paces = paces.as_slice();
+    let text = advice_text(alloc, request.form, p, advice, items, held, pairs, paces)?;
     Ok(Answer::on_out(alloc, Status::Done, text))
 }

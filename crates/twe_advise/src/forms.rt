@@ -5,13 +5,17 @@ ghost use Rattle.run_advice.specs.Totals.{CanBeSummed};
 ghost use Rattle.twe_advise.specs.Forms as forms;
 
 use crate::chains::push_chain_table;
+use crate::holds::push_holds_table;
 use crate::json::{push_json_head, push_json_held, push_json_tasks, push_json_times};
 use crate::json_chains::push_json_steps;
+use crate::json_holds::push_json_pairs;
 use crate::paces::Pace;
 use crate::text::{push_head, push_held, push_tasks_table, push_times_table};
 use crate::words::Form;
+use held_pairs::HeldPair;
 use run_advice::Advice;
 use std::alloc::Global;
+use twe_ast::Item;
 use twe_base::{Bytes, Memory};
 use twe_program::Prog;
 
@@ -21,14 +25,16 @@ pub(crate) fn advice_text(
     form: Form,
     p: &Prog,
     advice: &Advice,
+    items: &[Item],
     held: u64,
+    pairs: &[HeldPair],
     paces: &[Pace],
 ) -> Result<Bytes, Memory>
     requires few { CanBeSummed advice.now.works }
     requires some { All (λ pace. 0 < pace.workers) paces.now }
     ensures { IfOk result (λ text. text
-        ≡ forms.advice_text form p.now advice.now.profile.work advice.now.profile.span held paces.now advice.now.works
-        advice.now.tasks advice.now.profile.starts advice.now.steps) }
+        ≡ forms.advice_text form p.now items.now advice.now.profile.work advice.now.profile.span held pairs.now paces.now
+        advice.now.works advice.now.tasks advice.now.profile.starts advice.now.steps) }
 {
     let (work, span) = (advice.profile.work, advice.profile.span);
     let (works, decls) = (advice.works.as_slice(), p.tasks.as_slice());
@@ -41,6 +47,7 @@ pub(crate) fn advice_text(
             push_held(&mut text, span, held)?;
             push_times_table(&mut text, work, span, paces)?;
             push_tasks_table(&mut text, works, decls)?;
+            push_holds_table(&mut text, p, items, pairs)?;
             push_chain_table(&mut text, p, tasks, starts, steps)?;
         }
         Form::Json => {
@@ -49,6 +56,8 @@ pub(crate) fn advice_text(
             push_json_times(&mut text, work, span, paces)?;
             text.push_all(b"],\"tasks\":[")?;
             push_json_tasks(&mut text, works, decls)?;
+            text.push_all(b"],\"holds\":[")?;
+            push_json_pairs(&mut text, p, items, pairs)?;
             text.push_all(b"],\"chain\":[")?;
             push_json_steps(&mut text, p, tasks, starts, steps)?;
             text.push_all(b"]}\n")?;

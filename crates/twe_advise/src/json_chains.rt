@@ -87,7 +87,7 @@ fn push_json_place(text: &mut Bytes, place: Place) -> Result<(), Memory>
 }
 
 /// Appends the place of the task declaration of this number, if there is one.
-fn push_json_place_of(text: &mut Bytes, p: &Prog, decl: u32) -> Result<(), Memory>
+pub(crate) fn push_json_place_of(text: &mut Bytes, p: &Prog, decl: u32) -> Result<(), Memory>
     ensures { OnOk result (text.new ≡ text.old ++ json_place_found (slice_get p.now.tasks decl)) }
 {
     match p.tasks.get(decl as usize) {

@@ -1,15 +1,18 @@
 //! `twe_advise`: what a run could gain. It reads the text of a TWEJava program from standard input, and after a line `%%` the
-//! text of a journal. It writes how parallel the run was, the least time with more workers, what its tasks took, and
-//! why the entries of its heaviest chain come one after another.
+//! text of a journal. It writes how parallel the run was, the least time with more workers, what its tasks took,
+//! which effects held tasks most, and why the entries of its heaviest chain come one after another.
 #![tactic(auto)]
 
 mod answering;
 mod chains;
 mod forms;
+mod holds;
 mod json;
 mod json_chains;
+mod json_holds;
 mod paces;
 mod program;
+mod request;
 mod text;
 mod top;
 mod words;

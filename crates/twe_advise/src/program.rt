@@ -3,19 +3,21 @@ ghost use Rattle.twe_advise.specs.Answers.{AdviceDue, AdviceGiven};
 ghost use Rattle.twe_advise.specs.Words.{advise_usage_text, form_of};
 
 use crate::answering::advice_answer;
+use crate::request::{Request, declarations};
 use crate::text::usage_text;
 use crate::words::{Form, form_of};
 use journal_programs::{JournalProgram, answer_with_journal};
 use seg_journal::{Limits, Move};
 use std::alloc::Global;
+use text_answers::cut_input;
 use text_programs::TextProgram;
 use twe_base::{Bytes, Memory, Word};
 use twe_io::Answer;
 use twe_machine::ReplayFail;
 use twe_program::Prog;
 
-impl JournalProgram for Form {
-    ghost gives = { AdviceGiven };
+impl JournalProgram for Request {
+    ghost gives = { λ request. AdviceGiven request.form request.items };
 
     fn answer_moves(
         &self,
@@ -24,7 +26,7 @@ impl JournalProgram for Form {
         lim: Limits,
         moves: &[Move],
     ) -> Result<Answer, ReplayFail> {
-        advice_answer(alloc, *self, p, lim, moves)
+        advice_answer(alloc, self, p, lim, moves)
     }
 }
 
@@ -44,6 +46,9 @@ impl TextProgram for Form {
     }
 
     fn answer_text(&self, alloc: Global, text: &[u8]) -> Result<Answer, Memory> {
-        answer_with_journal(alloc, self, text)
+        let (program, _) = cut_input(text);
+        let items = declarations(alloc, program)?;
+        let request = Request { form: *self, items };
+        answer_with_journal(alloc, &request, text)
     }
 }

@@ -22,7 +22,7 @@ pub(crate) fn usage_text(alloc: Global) -> Result<Bytes, Memory>
 }
 
 /// Appends a number at the right of a column.
-fn push_column(text: &mut Bytes, number: u128) -> Result<(), Memory>
+pub(crate) fn push_column(text: &mut Bytes, number: u128) -> Result<(), Memory>
     ensures { OnOk result (text.new ≡ text.old ++ number_column number) }
 {
     let mut buffer = Buffer::new();

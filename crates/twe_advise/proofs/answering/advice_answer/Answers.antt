@@ -11,6 +11,8 @@ advised_answer-requires-clause-both c =
 -- the advice is written
 pub returns-clause-given : goal.returns-clause-given
 returns-clause-given c =
-    advice_given c.args.form c.args.p.now c.args.lim c.args.moves.now c.in_ok-advice.advice c.in_ok-held.held.span c.in_ok-answer.answer c.in_ok-advice.ensures.advised
+    let request = c.args.request.now in
+    advice_given request.form request.items c.args.p.now c.args.lim c.args.moves.now c.in_ok-advice.advice c.in_ok-held.held c.in_ok-pairs.pairs c.as_slice-3.result.now
+    c.as_slice.result.now c.as_slice-2.result.now c.in_ok-answer.answer c.in_ok-advice.ensures.advised
     c.in_ok-advice.ensures.steps c.in_ok-advice.ensures.tasks c.in_ok-advice.ensures.earliest
-    c.in_ok-held.ensures.held.held c.in_ok-answer.ensures
+    c.in_ok-held.ensures.held c.as_slice.ensures c.as_slice-2.ensures c.in_ok-pairs.ensures c.as_slice-3.ensures c.in_ok-answer.ensures

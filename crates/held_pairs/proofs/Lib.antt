@@ -1,0 +1,6 @@
+mod Counting
+mod Most
+mod PairOrder
+mod Ranked
+mod Tallied
+mod Totals

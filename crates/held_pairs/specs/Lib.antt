@@ -1,0 +1,4 @@
+pub mod MostHeld
+pub mod OfHolds
+pub mod Pairs
+pub mod inner

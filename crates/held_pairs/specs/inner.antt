@@ -1,0 +1,3 @@
+-- What only private clauses and invariants cite.
+pub mod Ranks
+pub mod Tallies
