@@ -55,9 +55,14 @@ awaited_words p tasks _ = []
 abbrev pub wait_title : Program → List TaskRow → Mark → List ℕ
 wait_title p tasks bar = label_found p (slice_get tasks bar.task) ++ awaited_words p tasks bar.end
 
--- what a hatched box tells: the task that was held, by whom, and what freed it, as `4 inc(2): is held by 3 inc(1), until entry 7`
+-- who held a task, as `: is held by 3 inc(1)`
+unfoldable pub holder_words : Program → List TaskRow → ℕ → List ℕ
+holder_words p tasks holder = codes ": is held by " ++ label_found p (slice_get tasks holder)
+
+-- who held a task, and what freed it, as `: is held by 3 inc(1), until entry 7`
+abbrev pub held_words : Program → List TaskRow → Hold → List ℕ
+held_words p tasks hold = holder_words p tasks hold.holder ++ with_number (codes ", until entry ") hold.freed_by
+
+-- what a hatched box tells: the task that was held, by whom, and what freed it
 abbrev pub held_title : Program → List TaskRow → Hold → List ℕ
-held_title p tasks hold =
-    label_found p (slice_get tasks hold.task)
-    ++ ((codes ": is held by " ++ label_found p (slice_get tasks hold.holder))
-    ++ with_number (codes ", until entry ") hold.freed_by)
+held_title p tasks hold = label_found p (slice_get tasks hold.task) ++ held_words p tasks hold

@@ -1,7 +1,7 @@
 //! What is written of tasks and of what they did.
 ghost use Rattle.std.specs.Prelude.{◌≡◌, ◌++◌, IfOk, OnOk, slice_get};
 ghost use Rattle.run_texts.specs.TaskLabels.{task_call};
-ghost use Rattle.twe_draw.specs.Labels.{awaited_words, bar_title, label_found, wait_title, details_found, end_words, entry_words, held_title, task_details};
+ghost use Rattle.twe_draw.specs.Labels.{awaited_words, bar_title, label_found, wait_title, details_found, end_words, entry_words, held_title, held_words, holder_words, task_details};
 
 use crate::numbers::{push_number, push_small};
 use held_span::Hold;
@@ -129,6 +129,22 @@ pub(crate) fn wait_title(
     Ok(title)
 }
 
+/// Appends who held a task.
+#[tactic(auto, unfolding(crate::specs::Labels::holder_words))]
+fn push_holder(text: &mut Bytes, p: &Prog, tasks: &[TaskRow], holder: u32) -> Result<(), Memory>
+    ensures { OnOk result (text.new ≡ text.old ++ holder_words p.now tasks.now holder) }
+{
+    push_label_after(text, b": is held by ", p, tasks, holder)
+}
+
+/// Appends who held a task, and what freed it.
+fn push_held_words(text: &mut Bytes, p: &Prog, tasks: &[TaskRow], hold: &Hold) -> Result<(), Memory>
+    ensures { OnOk result (text.new ≡ text.old ++ held_words p.now tasks.now hold.now) }
+{
+    push_holder(text, p, tasks, hold.holder)?;
+    push_number(text, b", until entry ", hold.freed_by)
+}
+
 /// What a hatched box tells: the task that was held, by whom, and what freed it.
 pub(crate) fn held_title(
     alloc: Global,
@@ -140,7 +156,6 @@ pub(crate) fn held_title(
 {
     let mut title = Bytes::new(alloc);
     push_label_of(&mut title, p, tasks, hold.task)?;
-    push_label_after(&mut title, b": is held by ", p, tasks, hold.holder)?;
-    push_number(&mut title, b", until entry ", hold.freed_by)?;
+    push_held_words(&mut title, p, tasks, hold)?;
     Ok(title)
 }
