@@ -30,7 +30,7 @@ use Rattle.span_profile.specs.LeadsTo.{LeadsTo, conflict, gives_value, makes, sa
 use Rattle.span_profile.specs.Strands.{Strand, admission, made_task}
 use Rattle.span_profile.specs.heaviest_chain.Nodes.{Node, SharesKey}
 use Rattle.held_span.specs.Freed.{IsBy, RunEntry}
-use Rattle.held_span.specs.Holds.{Makes}
+use Rattle.held_span.specs.Holds.{MakesTask}
 use Rattle.held_span.specs.Ways.{IsOnWay}
 use Rattle.held_span.specs.declared.notes.Notes.{Notes}
 use Rattle.held_span.specs.inner.Noting.{AreNoted, HasBegun, MakesOrFrees, TellHolders, TellMakers, low_at, low_found, low_of, makers_after, noted}
@@ -75,7 +75,7 @@ makes_admitted a b t is apart (conflict x y first second meets) =
 
 -- The makers of tasks, with one entry more.
 module _ (stages : List RunEntry) (makers : List (Option ℕ)) (told : TellMakers stages makers) (b : RunEntry) where
-  makes_still : (task number : ℕ) → Makes stages number task → Makes (stages ++ b ∷ []) number task
+  makes_still : (task number : ℕ) → MakesTask stages number task → MakesTask (stages ++ b ∷ []) number task
   makes_still task number m = record { entry = m.entry; there = get-kept stages b number m.entry m.there; made = m.made }
 
   makers_same : ((c : ℕ) → ¬ (b.strand.made ≡ Some c)) → TellMakers (stages ++ b ∷ []) makers

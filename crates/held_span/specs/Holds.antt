@@ -9,23 +9,23 @@ use Rattle.held_span.specs.Freed.{FreesFrom, RunEntry}
 use Rattle.held_span.specs.declared.hold.Hold.{Hold}
 
 -- The entry of this number admits the task.
-pub record Admits (stages : List RunEntry) (number task : ℕ) : Type 0 where
+pub record AdmitsTask (stages : List RunEntry) (number task : ℕ) : Type 0 where
   pub entry : RunEntry
   pub there : slice_get stages number ≡ Some entry
   pub kind : entry.kind ≡ Admit
   pub task_is : entry.strand.task ≡ task
 
 -- The entry of this number has made the task.
-pub record Makes (stages : List RunEntry) (number task : ℕ) : Type 0 where
+pub record MakesTask (stages : List RunEntry) (number task : ℕ) : Type 0 where
   pub entry : RunEntry
   pub there : slice_get stages number ≡ Some entry
   pub made : entry.strand.made ≡ Some task
 
 -- The entry of this number admits the task. It starts later than the one that made the task ended, by this time.
 pub record IsHeldFor (stages : List RunEntry) (starts ends : List ℕ) (number task time : ℕ) : Type 0 where
-  pub admits : Admits stages number task
+  pub admits : AdmitsTask stages number task
   pub maker : ℕ
-  pub makes : Makes stages maker task
+  pub makes : MakesTask stages maker task
   pub time_is : slice_index ends maker + time ≡ slice_index starts number
   pub some : 0 < time
 

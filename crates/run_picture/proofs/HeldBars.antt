@@ -1,5 +1,5 @@
 -- Each hold stands between the bars of the entry that made its task and of its admission.
-use Rattle.std.proofs.Common.{◌≡◌, ◌<◌, ◌+◌, ℕ, zero, suc, List, [], ◌∷◌, length, Some, ap, sym, ◌∙◌, subst, arith, refl}
+use Rattle.std.proofs.Common.{◌≡◌, ◌+◌, ◌++◌, ℕ, zero, suc, List, [], ◌∷◌, Some, ap, sym, ◌∙◌, subst, arith}
 use Rattle.std.specs.Prelude.{slice_get, slice_index_or}
 use Rattle.std.specs.List.{All}
 use Rattle.std.proofs.lemmas.Option.{slice_get_within}
@@ -10,7 +10,7 @@ use Rattle.twe_program.specs.Program.{Program}
 use Rattle.twe_machine.specs.declared.state.State.{State}
 use Rattle.twe_machine.specs.declared.state.TaskRow.{TaskRow}
 use Rattle.twe_machine.specs.Moves.{move_result, start_of}
-use Rattle.span_profile.specs.Strands.{made_task, strands}
+use Rattle.span_profile.specs.Strands.{strands}
 use Rattle.held_span.specs.Freed.{RunEntry, stages_from}
 use Rattle.held_span.specs.Holds.{IsHold}
 use Rattle.held_span.specs.declared.hold.Hold.{Hold}

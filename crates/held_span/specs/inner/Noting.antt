@@ -13,7 +13,7 @@ use Rattle.span_profile.specs.Strands.{Strand}
 use Rattle.span_profile.specs.heaviest_chain.Chains.{Leads}
 use Rattle.span_profile.specs.heaviest_chain.Nodes.{Node, SharesKey}
 use Rattle.held_span.specs.Freed.{FreesFrom, RunEntry}
-use Rattle.held_span.specs.Holds.{Makes}
+use Rattle.held_span.specs.Holds.{MakesTask}
 use Rattle.held_span.specs.declared.notes.Notes.{Notes}
 
 -- a task that was looked for, and 0 if there is none
@@ -69,7 +69,7 @@ TellHolders rows nodes stages lows =
 
 -- the entry that made a task is noted as its maker, and no other
 abbrev pub TellMakers : List RunEntry → List (Option ℕ) → Type 0
-TellMakers stages makers = (task number : ℕ) → (slice_get makers task ≡ Some (Some number)) ↔ Makes stages number task
+TellMakers stages makers = (task number : ℕ) → (slice_get makers task ≡ Some (Some number)) ↔ MakesTask stages number task
 
 -- The task of this entry has begun, and if the entry has done it, it is done, and the entry made none.
 pub record HasBegun (st : State) (strand : Strand) : Type 0 where
