@@ -25,15 +25,15 @@ use Rattle.twe_advise.specs.Forms.{advice_text}
 use Rattle.twe_advise.specs.inner.Given.{AdvisedBy}
 
 -- the parts of an answer with advice
-pub advised_by : (form : Form) (items : List Item) (p : Program) (advice : Advice) (held : ℕ) (pairs : List HeldPair) (starts ends : List ℕ) (shown : List Item)
+pub advised_by : (form : Form) (items : List Item) (p : Program) (advice : Advice) (held : HeldProfile) (pairs : List HeldPair) (starts ends : List ℕ) (shown : List Item)
     (paces slice : List Pace) (text : List ℕ) (answer : Answer)
     → starts ≡ advice.profile.starts → ends ≡ advice.profile.ends → shown ≡ items
     → ArePaces starts ends worker_counts paces → slice ≡ paces
-    → text ≡ advice_text form p shown advice.profile.work advice.profile.span held pairs slice advice.works advice.tasks advice.profile.starts advice.steps → answer ≡ on_out Done text
+    → text ≡ advice_text form p shown advice.profile.work advice.profile.span held.span held.holds pairs slice advice.works advice.tasks advice.profile.starts advice.steps → answer ≡ on_out Done text
     → AdvisedBy form items p advice held pairs answer
 advised_by form items p advice held pairs starts ends shown paces slice text answer starts_are ends_are shown_are are same is answer_is =
     let written = λ (i : List Item) (l : List Pace).
-    advice_text form p i advice.profile.work advice.profile.span held pairs l advice.works advice.tasks advice.profile.starts advice.steps in (
+    advice_text form p i advice.profile.work advice.profile.span held.span held.holds pairs l advice.works advice.tasks advice.profile.starts advice.steps in (
       paces,
       subst (λ (s : List ℕ). ArePaces s advice.profile.ends worker_counts paces) starts_are (subst (λ (e : List ℕ). ArePaces starts e worker_counts paces) ends_are are),
       answer_is ∙ ap (on_out Done) (is ∙ ap (λ (i : List Item). written i slice) shown_are ∙ ap (written items) same),
@@ -45,7 +45,7 @@ pub advice_given : (form : Form) (items : List Item) (p : Program) (lim : Bounds
     → IsAdvice p lim moves advice.profile.work advice.profile.span advice.profile.chain advice.works → HasSteps p lim moves advice.profile.chain advice.steps
     → AreMadeTasks p lim moves advice.tasks → HasEarliest p lim moves advice.profile.span advice.profile.starts advice.profile.ends
     → IsHeldProfile p lim moves held.span held.starts held.ends held.holds → tasks ≡ advice.tasks → holds ≡ held.holds → HeldMost tasks holds pairs → shown ≡ pairs
-    → AdvisedBy form items p advice held.span shown answer → AdviceGiven form items p lim moves answer
+    → AdvisedBy form items p advice held shown answer → AdviceGiven form items p lim moves answer
 advice_given form items p lim moves advice held pairs shown tasks holds answer is steps made early profile tasks_are holds_are most shown_are advised =
     let h = advice.profile in
     let of_these = subst (λ (t : List TaskRow). HeldMost t held.holds shown) tasks_are

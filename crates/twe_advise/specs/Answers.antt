@@ -38,7 +38,7 @@ pub data AdviceGiven (form : Form) (items : List Item) (p : Program) (lim : Boun
       → AreMadeTasks p lim moves tasks → HasEarliest p lim moves span starts ends → ArePaces starts ends worker_counts paces
       → IsHeldProfile p lim moves held held_starts held_ends holds → HeldMost tasks holds pairs
       → AdviceGiven form items p lim moves
-      (on_out Done (advice_text form p items work span held pairs paces works tasks starts steps))
+      (on_out Done (advice_text form p items work span held holds pairs paces works tasks starts steps))
 
 -- the answer to an input, in this form: to the text of a program, and after the first line that is exactly `%%` the text of a
 -- journal

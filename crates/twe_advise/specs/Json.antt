@@ -7,6 +7,9 @@ use Rattle.run_advice.specs.Advice.{parallelism_of}
 use Rattle.run_advice.specs.Totals.{total_of}
 use Rattle.run_advice.specs.declared.totals.TaskTotal.{TaskTotal}
 use Rattle.run_advice.specs.declared.totals.TaskWork.{TaskWork}
+use Rattle.held_span.specs.declared.hold.Hold.{Hold}
+use Rattle.twe_machine.specs.declared.state.TaskRow.{TaskRow}
+use Rattle.twe_advise.specs.HeldTimes.{held_time}
 use Rattle.twe_advise.specs.declared.paces.Pace.{Pace}
 use Rattle.twe_advise.specs.Texts.{hundredths_text, rows_by, word_number}
 
@@ -43,22 +46,24 @@ json_times work span paces = codes ",\"times\":[" ++ json_paces work span paces
 abbrev pub comma_before : ℕ → List ℕ
 comma_before number = if number == 0 then [] else codes ","
 
--- `{"name":"inc","made":1,"work":2,"heaviest":2}`
-abbrev pub json_task : TaskTotal → List ℕ → List ℕ
-json_task total name =
-    ((codes "{\"name\":\"" ++ name) ++ word_number (codes "\",\"made\":") total.made)
-    ++ (word_number (codes ",\"work\":") total.work ++ (word_number (codes ",\"heaviest\":") total.heaviest ++ codes "}"))
+-- `{"name":"inc","made":1,"work":2,"heaviest":2,"held":2}`
+abbrev pub json_task : TaskTotal → ℕ → List ℕ → List ℕ
+json_task total held name =
+    (((codes "{\"name\":\"" ++ name) ++ word_number (codes "\",\"made\":") total.made)
+    ++ (word_number (codes ",\"work\":") total.work ++ word_number (codes ",\"heaviest\":") total.heaviest))
+    ++ (word_number (codes ",\"held\":") held ++ codes "}")
 
 -- the object of the declaration with this number, which comes after a comma unless it is the first
-abbrev pub json_task_of : List TaskWork → ℕ → Decl → List ℕ
-json_task_of works number decl = comma_before number ++ json_task (total_of number works) decl.name
+abbrev pub json_task_of : List TaskWork → List TaskRow → List Hold → ℕ → Decl → List ℕ
+json_task_of works rows holds number decl =
+    comma_before number ++ json_task (total_of number works) (held_time rows holds number) decl.name
 
 -- the objects of these declarations, the first of which has this number
-abbrev pub json_tasks : List TaskWork → ℕ → List Decl → List ℕ
-json_tasks works number decls = rows_by (json_task_of works) number decls
+abbrev pub json_tasks : List TaskWork → List TaskRow → List Hold → ℕ → List Decl → List ℕ
+json_tasks works rows holds number decls = rows_by (json_task_of works rows holds) number decls
 
 -- the object, with these objects of the pairs that held most and of the chain
-abbrev pub json_text : List Decl → ℕ → ℕ → ℕ → List Pace → List TaskWork → List ℕ → List ℕ → List ℕ
-json_text decls work span held paces works pairs chain =
+abbrev pub json_text : List Decl → ℕ → ℕ → ℕ → List Hold → List Pace → List TaskWork → List TaskRow → List ℕ → List ℕ → List ℕ
+json_text decls work span held holds paces works rows pairs chain =
     ((((((((json_head work span ++ json_held span held) ++ json_times work span paces) ++ codes "],\"tasks\":[")
-    ++ json_tasks works 0 decls) ++ codes "],\"holds\":[") ++ pairs) ++ codes "],\"chain\":[") ++ chain) ++ codes "]}\n"
+    ++ json_tasks works rows holds 0 decls) ++ codes "],\"holds\":[") ++ pairs) ++ codes "],\"chain\":[") ++ chain) ++ codes "]}\n"

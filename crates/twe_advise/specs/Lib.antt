@@ -1,6 +1,7 @@
 pub mod Answers
 pub mod Chains
 pub mod Forms
+pub mod HeldTimes
 pub mod Holds
 pub mod Json
 pub mod JsonChains

@@ -7,6 +7,9 @@ use Rattle.run_advice.specs.Advice.{parallelism_of}
 use Rattle.run_advice.specs.Totals.{total_of}
 use Rattle.run_advice.specs.declared.totals.TaskTotal.{TaskTotal}
 use Rattle.run_advice.specs.declared.totals.TaskWork.{TaskWork}
+use Rattle.held_span.specs.declared.hold.Hold.{Hold}
+use Rattle.twe_machine.specs.declared.state.TaskRow.{TaskRow}
+use Rattle.twe_advise.specs.HeldTimes.{held_time}
 use Rattle.twe_advise.specs.declared.paces.Pace.{Pace}
 
 -- a number at the right of a column of 12 bytes; a longer number takes more
@@ -38,10 +41,10 @@ abbrev pub time_row : ℕ → ℕ → Pace → List ℕ
 time_row work span pace =
     ((number_column pace.workers ++ number_column (least_time work span pace.workers)) ++ number_column pace.time) ++ codes "\n"
 
--- what the tasks of a name took: how many there were, their work, the work of the heaviest
-abbrev pub task_row : TaskTotal → List ℕ → List ℕ
-task_row total name =
-    ((number_column total.made ++ number_column total.work) ++ number_column total.heaviest)
+-- what the tasks of a name took: how many there were, their work, the work of the heaviest, and how long they were held
+abbrev pub task_row : TaskTotal → ℕ → List ℕ → List ℕ
+task_row total held name =
+    (((number_column total.made ++ number_column total.work) ++ number_column total.heaviest) ++ number_column held)
     ++ ((codes "  " ++ name) ++ codes "\n")
 
 -- a row for each of these declarations, by its number; the first has this one
@@ -50,22 +53,23 @@ rows_by row number [] = []
 rows_by row number (decl ∷ decls) = row number decl ++ rows_by row (suc number) decls
 
 -- what the tasks of the declaration with this number and this name took
-abbrev pub task_row_of : List TaskWork → ℕ → Decl → List ℕ
-task_row_of works number decl = task_row (total_of number works) decl.name
+abbrev pub task_row_of : List TaskWork → List TaskRow → List Hold → ℕ → Decl → List ℕ
+task_row_of works rows holds number decl = task_row (total_of number works) (held_time rows holds number) decl.name
 
 -- the rows of these declarations, the first of which has this number
-abbrev pub task_rows : List TaskWork → ℕ → List Decl → List ℕ
-task_rows works number decls = rows_by (task_row_of works) number decls
+abbrev pub task_rows : List TaskWork → List TaskRow → List Hold → ℕ → List Decl → List ℕ
+task_rows works rows holds number decls = rows_by (task_row_of works rows holds) number decls
 
 -- the table of times
 unfoldable pub times_text : ℕ → ℕ → List Pace → List ℕ
 times_text work span paces = codes "\n     workers  least time  paced time\n" ++ flat_map (time_row work span) paces
 
 -- the table of tasks
-unfoldable pub tasks_text : List TaskWork → List Decl → List ℕ
-tasks_text works decls = codes "\n       tasks        work    heaviest  name\n" ++ task_rows works 0 decls
+unfoldable pub tasks_text : List TaskWork → List TaskRow → List Hold → List Decl → List ℕ
+tasks_text works rows holds decls =
+    codes "\n       tasks        work    heaviest        held  name\n" ++ task_rows works rows holds 0 decls
 
 -- what is written as tables: work, span and parallelism, the held span, the times, and the tasks
-abbrev pub tables_text : List Decl → ℕ → ℕ → ℕ → List Pace → List TaskWork → List ℕ
-tables_text decls work span held paces works =
-    ((head_text work span ++ held_text span held) ++ times_text work span paces) ++ tasks_text works decls
+abbrev pub tables_text : List Decl → ℕ → ℕ → ℕ → List Hold → List Pace → List TaskWork → List TaskRow → List ℕ
+tables_text decls work span held holds paces works rows =
+    ((head_text work span ++ held_text span held) ++ times_text work span paces) ++ tasks_text works rows holds decls

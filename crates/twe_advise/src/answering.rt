@@ -11,7 +11,7 @@ use crate::forms::advice_text;
 use crate::paces::paces_of;
 use crate::request::Request;
 use held_pairs::{HeldPair, held_pairs};
-use held_span::held_profile;
+use held_span::{HeldProfile, held_profile};
 use run_advice::{Advice, advise};
 use seg_journal::{Limits, Move};
 use std::alloc::Global;
@@ -34,7 +34,7 @@ pub(crate) fn advice_answer(
     let advice = advise(alloc, p, lim, moves)?;
     let held = held_profile(alloc, p, lim, moves)?;
     let pairs = held_pairs(alloc, advice.tasks.as_slice(), held.holds.as_slice())?;
-    let answer = advised_answer(alloc, request, p, &advice, held.span, pairs.as_slice())?;
+    let answer = advised_answer(alloc, request, p, &advice, &held, pairs.as_slice())?;
     Ok(answer)
 }
 
@@ -44,12 +44,12 @@ fn advised_answer(
     request: &Request,
     p: &Prog,
     advice: &Advice,
-    held: u64,
+    held: &HeldProfile,
     pairs: &[HeldPair],
 ) -> Result<Answer, Memory>
     requires few { CanBeSummed advice.now.works }
     requires both { length advice.now.profile.ends ≡ length advice.now.profile.starts }
-    ensures { IfOk result (AdvisedBy request.now.form request.now.items p.now advice.now held pairs.now) }
+    ensures { IfOk result (AdvisedBy request.now.form request.now.items p.now advice.now held.now pairs.now) }
 {
     let starts = advice.profile.starts.as_slice();
     let ends = advice.profile.ends.as_slice();

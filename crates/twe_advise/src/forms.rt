@@ -13,6 +13,7 @@ use crate::paces::Pace;
 use crate::text::{push_head, push_held, push_tasks_table, push_times_table};
 use crate::words::Form;
 use held_pairs::HeldPair;
+use held_span::HeldProfile;
 use run_advice::Advice;
 use std::alloc::Global;
 use twe_ast::Item;
@@ -26,36 +27,37 @@ pub(crate) fn advice_text(
     p: &Prog,
     advice: &Advice,
     items: &[Item],
-    held: u64,
+    held: &HeldProfile,
     pairs: &[HeldPair],
     paces: &[Pace],
 ) -> Result<Bytes, Memory>
     requires few { CanBeSummed advice.now.works }
     requires some { All (λ pace. 0 < pace.workers) paces.now }
     ensures { IfOk result (λ text. text
-        ≡ forms.advice_text form p.now items.now advice.now.profile.work advice.now.profile.span held pairs.now paces.now
+        ≡ forms.advice_text form p.now items.now advice.now.profile.work advice.now.profile.span held.now.span held.now.holds pairs.now paces.now
         advice.now.works advice.now.tasks advice.now.profile.starts advice.now.steps) }
 {
     let (work, span) = (advice.profile.work, advice.profile.span);
     let (works, decls) = (advice.works.as_slice(), p.tasks.as_slice());
     let (tasks, steps) = (advice.tasks.as_slice(), advice.steps.as_slice());
     let starts = advice.profile.starts.as_slice();
+    let holds = held.holds.as_slice();
     let mut text = Bytes::new(alloc);
     match form {
         Form::Tables => {
             push_head(&mut text, work, span)?;
-            push_held(&mut text, span, held)?;
+            push_held(&mut text, span, held.span)?;
             push_times_table(&mut text, work, span, paces)?;
-            push_tasks_table(&mut text, works, decls)?;
+            push_tasks_table(&mut text, works, tasks, holds, decls)?;
             push_holds_table(&mut text, p, items, pairs)?;
             push_chain_table(&mut text, p, tasks, starts, steps)?;
         }
         Form::Json => {
             push_json_head(&mut text, work, span)?;
-            push_json_held(&mut text, span, held)?;
+            push_json_held(&mut text, span, held.span)?;
             push_json_times(&mut text, work, span, paces)?;
             text.push_all(b"],\"tasks\":[")?;
-            push_json_tasks(&mut text, works, decls)?;
+            push_json_tasks(&mut text, works, tasks, holds, decls)?;
             text.push_all(b"],\"holds\":[")?;
             push_json_pairs(&mut text, p, items, pairs)?;
             text.push_all(b"],\"chain\":[")?;

@@ -6,11 +6,14 @@ ghost use Rattle.twe_advise.specs.Json.{comma_before, json_head, json_held, json
 ghost use Rattle.twe_advise.specs.Json as json;
 ghost use Rattle.twe_advise.specs.Texts.{word_number};
 
+use crate::held_times::held_time;
 use crate::paces::Pace;
 use crate::text::{push_hundredths, push_number};
+use held_span::Hold;
 use run_advice::{TaskTotal, TaskWork, parallelism_of, total_of};
 use schedule_bounds::least_time;
 use twe_base::{Bytes, Memory};
+use twe_machine::TaskRow;
 use twe_program::Decl;
 
 /// Appends a word and a number.
@@ -108,14 +111,15 @@ pub(crate) fn push_comma(text: &mut Bytes, number: usize) -> Result<(), Memory>
 }
 
 /// Appends what the tasks of this name took.
-fn push_json_task(text: &mut Bytes, total: TaskTotal, name: &[u8]) -> Result<(), Memory>
-    ensures { OnOk result (text.new ≡ text.old ++ json.json_task total name.now) }
+fn push_json_task(text: &mut Bytes, total: TaskTotal, held: u128, name: &[u8]) -> Result<(), Memory>
+    ensures { OnOk result (text.new ≡ text.old ++ json.json_task total held name.now) }
 {
     text.push_all(b"{\"name\":\"")?;
     text.push_all(name)?;
     push_small(text, b"\",\"made\":", total.made)?;
     push_small(text, b",\"work\":", total.work)?;
     push_small(text, b",\"heaviest\":", total.heaviest)?;
+    push_number(text, b",\"held\":", held)?;
     text.push_all(b"}")
 }
 
@@ -123,14 +127,17 @@ fn push_json_task(text: &mut Bytes, total: TaskTotal, name: &[u8]) -> Result<(),
 pub(crate) fn push_json_tasks(
     text: &mut Bytes,
     works: &[TaskWork],
+    rows: &[TaskRow],
+    holds: &[Hold],
     decls: &[Decl],
 ) -> Result<(), Memory>
     requires { CanBeSummed works.now }
-    ensures { OnOk result (text.new ≡ text.old ++ json_tasks works.now 0 decls.now) }
+    ensures { OnOk result (text.new ≡ text.old ++ json_tasks works.now rows.now holds.now 0 decls.now) }
 {
     for (number, decl) in decls.iter().enumerate() {
+        let held = held_time(rows, holds, number);
         push_comma(text, number)?;
-        push_json_task(text, total_of(works, number), decl.name.as_bytes())?;
+        push_json_task(text, total_of(works, number), held, decl.name.as_bytes())?;
     }
     Ok(())
 }

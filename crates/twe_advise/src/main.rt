@@ -6,6 +6,7 @@
 mod answering;
 mod chains;
 mod forms;
+mod held_times;
 mod holds;
 mod json;
 mod json_chains;

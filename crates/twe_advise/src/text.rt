@@ -6,12 +6,15 @@ ghost use Rattle.twe_advise.specs.Texts.{head_text, held_text, hundredths_text, 
 ghost use Rattle.twe_advise.specs.Texts as texts;
 ghost use Rattle.twe_advise.specs.Words.{advise_usage_text};
 
+use crate::held_times::held_time;
 use crate::paces::Pace;
+use held_span::Hold;
 use itoa::Buffer;
 use run_advice::{TaskTotal, TaskWork, parallelism_of, total_of};
 use schedule_bounds::least_time;
 use std::alloc::Global;
 use twe_base::{Bytes, Memory};
+use twe_machine::TaskRow;
 use twe_program::Decl;
 
 /// The usage line.
@@ -100,24 +103,32 @@ fn push_times(text: &mut Bytes, work: u64, span: u64, paces: &[Pace]) -> Result<
 }
 
 /// Appends the row of what the tasks of this name took.
-fn push_task(text: &mut Bytes, total: TaskTotal, name: &[u8]) -> Result<(), Memory>
-    ensures { OnOk result (text.new ≡ text.old ++ texts.task_row total name.now) }
+fn push_task(text: &mut Bytes, total: TaskTotal, held: u128, name: &[u8]) -> Result<(), Memory>
+    ensures { OnOk result (text.new ≡ text.old ++ texts.task_row total held name.now) }
 {
     push_small_column(text, total.made)?;
     push_small_column(text, total.work)?;
     push_small_column(text, total.heaviest)?;
+    push_column(text, held)?;
     text.push_all(b"  ")?;
     text.push_all(name)?;
     text.push_all(b"\n")
 }
 
 /// Appends a row for each declared task.
-fn push_tasks(text: &mut Bytes, works: &[TaskWork], decls: &[Decl]) -> Result<(), Memory>
+fn push_tasks(
+    text: &mut Bytes,
+    works: &[TaskWork],
+    rows: &[TaskRow],
+    holds: &[Hold],
+    decls: &[Decl],
+) -> Result<(), Memory>
     requires { CanBeSummed works.now }
-    ensures { OnOk result (text.new ≡ text.old ++ task_rows works.now 0 decls.now) }
+    ensures { OnOk result (text.new ≡ text.old ++ task_rows works.now rows.now holds.now 0 decls.now) }
 {
     for (number, decl) in decls.iter().enumerate() {
-        push_task(text, total_of(works, number), decl.name.as_bytes())?;
+        let held = held_time(rows, holds, number);
+        push_task(text, total_of(works, number), held, decl.name.as_bytes())?;
     }
     Ok(())
 }
@@ -140,11 +151,13 @@ pub(crate) fn push_times_table(
 pub(crate) fn push_tasks_table(
     text: &mut Bytes,
     works: &[TaskWork],
+    rows: &[TaskRow],
+    holds: &[Hold],
     decls: &[Decl],
 ) -> Result<(), Memory>
     requires { CanBeSummed works.now }
-    ensures { OnOk result (text.new ≡ text.old ++ tasks_text works.now decls.now) }
+    ensures { OnOk result (text.new ≡ text.old ++ tasks_text works.now rows.now holds.now decls.now) }
 {
-    text.push_all(b"\n       tasks        work    heaviest  name\n")?;
-    push_tasks(text, works, decls)
+    text.push_all(b"\n       tasks        work    heaviest        held  name\n")?;
+    push_tasks(text, works, rows, holds, decls)
 }

@@ -6,15 +6,17 @@ use Rattle.twe_io.specs.declared.status.Status.TheVariants.{Done}
 use Rattle.twe_ast.specs.declared.item.Item.{Item}
 use Rattle.twe_program.specs.Program.{Program}
 use Rattle.held_pairs.specs.declared.pair.HeldPair.{HeldPair}
+use Rattle.held_span.specs.declared.spanning.HeldProfile.{HeldProfile}
 use Rattle.run_advice.specs.declared.advising.Advice.{Advice}
 use Rattle.twe_advise.specs.declared.paces.Pace.{Pace}
 use Rattle.twe_advise.specs.Forms.{advice_text}
 use Rattle.twe_advise.specs.Paces.{ArePaces, worker_counts}
 use Rattle.twe_advise.specs.declared.words.Form.{Form}
 
--- the answer has this advice in this form, with the times of the paced timetables, the held span and the pairs that held most
-abbrev pub AdvisedBy : Form → List Item → Program → Advice → ℕ → List HeldPair → Answer → Type 0
+-- the answer has this advice in this form, with the times of the paced timetables, the held span, the holds and the pairs that held
+-- most
+abbrev pub AdvisedBy : Form → List Item → Program → Advice → HeldProfile → List HeldPair → Answer → Type 0
 AdvisedBy form items p advice held pairs answer =
     (paces : List Pace) × ArePaces advice.profile.starts advice.profile.ends worker_counts paces
-    × (answer ≡ on_out Done (advice_text form p items advice.profile.work advice.profile.span held pairs paces
+    × (answer ≡ on_out Done (advice_text form p items advice.profile.work advice.profile.span held.span held.holds pairs paces
     advice.works advice.tasks advice.profile.starts advice.steps))
