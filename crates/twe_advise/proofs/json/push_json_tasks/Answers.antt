@@ -18,8 +18,8 @@ loop-number-preserved c =
     rows_more (json_task_of works rows holds) c.args.decls.now number c.index-decls-number.result c.args.text.now c.loop-number.text c.push_json_task.new.text
     c.loop-number-test.true c.index-decls-number.is c.loop-number.invariant
     (c.in_ok-push_json_task.ensures
-    ∙ (ap (λ (t : TaskTotal). comma ++ json_task t c.held_time.result c.as_bytes.result.now) c.total_of.ensures
-    ∙ (ap (λ (h : ℕ). comma ++ json_task (total_of number works) h c.as_bytes.result.now) c.held_time.ensures
+    ∙ (ap (λ (t : TaskTotal). comma ++ json_task t c.held_time-held.result c.as_bytes.result.now) c.total_of.ensures
+    ∙ (ap (λ (h : ℕ). comma ++ json_task (total_of number works) h c.as_bytes.result.now) c.held_time-held.ensures
     ∙ (ap (λ (l : List ℕ). comma ++ json_task (total_of number works) held l) c.as_bytes.ensures
     ∙ (ap (λ (l : List ℕ). l ++ json_task (total_of number works) held name) c.in_ok-push_comma.ensures
     ∙ append_assoc c.loop-number.text (comma_before number) (json_task (total_of number works) held name))))))

@@ -15,6 +15,6 @@ loop-number-preserved c =
     rows_more (task_row_of c.args.works.now rows holds) c.args.decls.now number c.index-decls-number.result c.args.text.now text c.push_task.new.text
     c.loop-number-test.true c.index-decls-number.is c.loop-number.invariant
     (c.in_ok-push_task.ensures
-    ∙ (ap (λ (t : TaskTotal). text ++ task_row t c.held_time.result c.as_bytes.result.now) c.total_of.ensures
-    ∙ (ap (λ (h : ℕ). text ++ task_row (total_of number c.args.works.now) h c.as_bytes.result.now) c.held_time.ensures
+    ∙ (ap (λ (t : TaskTotal). text ++ task_row t c.held_time-held.result c.as_bytes.result.now) c.total_of.ensures
+    ∙ (ap (λ (h : ℕ). text ++ task_row (total_of number c.args.works.now) h c.as_bytes.result.now) c.held_time-held.ensures
     ∙ ap (λ (l : List ℕ). text ++ task_row (total_of number c.args.works.now) (held_time rows holds number) l) c.as_bytes.ensures)))
