@@ -79,14 +79,14 @@ module _ (p : Program) where
     pub carries_out : (frame : Frame) (from to : Machine) (old_cells new_cells : C) (prints : List ℤ) (ending : Ending) (new_frame : Frame) (stop : Stop)
         → config_at p frame frame.body ≡ Some (config_of from)
         → Finishes p ways (standing from old_cells frame.prints) ending (standing to new_cells prints)
-        → (new_frame, stop) ≡ finished p (ran frame prints to.fuel) to.vars ending
+        → (new_frame, stop) ≡ finished p (ran frame prints to.fuel) to.vars.active ending
         → CarriesOut p ways.rule frame old_cells stop new_frame new_cells
     carries_out frame from to old_cells new_cells prints ending new_frame stop is f done = record {
       accesses = f.accesses;
       follows = f.follows;
       means = λ cells agrees.
           segment_so frame frame.body (config_of from) cells ending (store_of (over (config_of to) cells f.accesses)) is (f.ends cells agrees)
-          ∙ ap (λ (all : List ℤ). let d = finished p (ran frame all to.fuel) to.vars ending in record { frame = d.0; cells = after cells f.accesses; accesses = f.accesses; stop = d.1 }) (sym f.prints)
+          ∙ ap (λ (all : List ℤ). let d = finished p (ran frame all to.fuel) to.vars.active ending in record { frame = d.0; cells = after cells f.accesses; accesses = f.accesses; stop = d.1 }) (sym f.prints)
           ∙ ap (λ (d : Frame × Stop). record { frame = d.0; cells = after cells f.accesses; accesses = f.accesses; stop = d.1 }) (sym done);
     }
 

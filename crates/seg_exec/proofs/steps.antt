@@ -8,5 +8,8 @@ pub mod Bounds
 -- Steps over cells of any kind.
 pub mod Witnesses
 pub mod Reaching
+-- The variables of the active bodies.
+pub mod Callers
+pub mod Parts
 -- Each step takes a unit of fuel or leaves less work.
 pub mod Falling

@@ -2,7 +2,10 @@
 ghost use Rattle.std.specs.Prelude.{◌≡◌, ◌++◌, pos, replicate, IfOk, OnOk, option_copied};
 ghost use Rattle.twe_program.specs.Statement.{statements_of};
 ghost use Rattle.seg_exec.specs.Meaning.{body_of, var_count_of, vars_at_start};
+ghost use Rattle.seg_exec.specs.inner.steps.Bodies.{with_active};
 
+use crate::steps::variables::Variables;
+use std::alloc::Global;
 use twe_base::{Ints, Memory};
 use twe_program::{Decl, Stmt};
 
@@ -28,10 +31,10 @@ fn var_count(decl: Option<&Decl>) -> usize
     }
 }
 
-/// Appends zeros to a list.
+/// Appends zeros to the variables of the active body.
 #[inline(always)]
-fn push_zeros(vars: &mut Ints, count: usize) -> Result<(), Memory>
-    ensures { OnOk result (vars.new ≡ vars.old ++ replicate count (pos 0)) }
+fn push_zeros(vars: &mut Variables, count: usize) -> Result<(), Memory>
+    ensures { OnOk result (vars.new ≡ with_active (vars.old.active ++ replicate count (pos 0)) vars.old) }
 {
     for _ in 0..count {
         vars.push(0)?;
@@ -39,13 +42,21 @@ fn push_zeros(vars: &mut Ints, count: usize) -> Result<(), Memory>
     Ok(())
 }
 
-/// The variables of a body at its start: the arguments, and then 0 for each local.
+/// Makes the active body one that starts: its variables are the arguments. 0 is appended for each local.
 #[inline(always)]
-pub(crate) fn vars_at_start(decl: Option<&Decl>, args: Ints) -> Result<Ints, Memory>
+pub(crate) fn start(decl: Option<&Decl>, vars: &mut Variables) -> Result<(), Memory>
+    ensures { OnOk result (vars.new
+        ≡ with_active (vars_at_start (option_copied decl.entry) vars.old.active) vars.old) }
+{
+    let locals = var_count(decl).saturating_sub(vars.len());
+    push_zeros(vars, locals)
+}
+
+/// The variables of a body at its start: the arguments, and then 0 for each local.
+pub(crate) fn vars_at_start(alloc: Global, decl: Option<&Decl>, args: Ints) -> Result<Ints, Memory>
     ensures { IfOk result (λ vars. vars ≡ vars_at_start (option_copied decl.entry) args) }
 {
-    let mut vars = args;
-    let locals = var_count(decl).saturating_sub(vars.len());
-    push_zeros(&mut vars, locals)?;
-    Ok(vars)
+    let mut vars = Variables::new(args);
+    start(decl, &mut vars)?;
+    vars.into_active(alloc)
 }

@@ -29,7 +29,7 @@ fn entry_body(alloc: Global, decl: Option<&Decl>, args: Ints) -> Result<OpenBody
     let mut open_blocks = List::new(alloc);
     open_blocks.push(Position { block: 0, after: 0 })?;
     Ok(OpenBody {
-        vars: vars_at_start(decl, args)?,
+        vars: vars_at_start(alloc, decl, args)?,
         open_blocks,
     })
 }

@@ -18,6 +18,7 @@ use crate::steps::continuation::{OpenBlock, Suspension};
 use crate::steps::machine::Machine;
 use crate::steps::pushdown::Pushdown;
 use crate::steps::request::Ending;
+use crate::steps::variables::Variables;
 use crate::stop::Stop;
 use crate::strides::run::run;
 use std::alloc::Global;
@@ -123,10 +124,10 @@ fn finish(
     alloc: Global,
     p: &Prog,
     frame: &mut Frame,
-    vars: Ints,
+    vars: Variables,
     ending: Ending,
 ) -> Result<Stop, Memory>
-    ensures { IfOk result (λ stop. (frame.new, stop) ≡ finished p.now frame.old vars ending) }
+    ensures { IfOk result (λ stop. (frame.new, stop) ≡ finished p.now frame.old vars.active ending) }
 {
     match ending {
         Ending::Returned(value) => Ok(end(alloc, frame, value)),
@@ -141,7 +142,7 @@ fn finish(
                 positions,
             } = held.into_inner();
             frame.body = Some(OpenBody {
-                vars,
+                vars: vars.into_active(alloc)?,
                 open_blocks: positions.into_list(),
             });
             frame.next = next_of(frame, &operation);
@@ -161,10 +162,9 @@ fn machine_at<'a>(alloc: Global, p: &'a Prog, frame: &Frame) -> Result<Option<Ma
     let mut machine = Machine {
         work: Pushdown::new(alloc),
         operands: Pushdown::new(alloc),
-        vars: body.vars.copy(alloc)?,
+        vars: Variables::new(body.vars.copy(alloc)?),
         fuel: frame.fuel,
         calls: 0,
-        spare: Pushdown::new(alloc),
         open: OpenBlock {
             block: 0,
             at: 0,

@@ -15,3 +15,4 @@ mod resume;
 mod step;
 mod unfold;
 mod values;
+pub(crate) mod variables;

@@ -16,14 +16,12 @@ use Rattle.seg_exec.specs.declared.steps.request.Request.{Request}
 use Rattle.seg_exec.specs.declared.steps.request.Request.TheVariants as requests
 use Rattle.seg_exec.specs.declared.steps.continuation.Goal.{Goal}
 use Rattle.seg_exec.specs.declared.steps.continuation.Goal.TheVariants as goals
-use Rattle.seg_exec.specs.declared.steps.continuation.Recovered.{Recovered}
-use Rattle.seg_exec.specs.declared.steps.continuation.Recovered.TheVariants as recovers
 use Rattle.seg_exec.specs.Access.{Ways}
 use Rattle.seg_exec.specs.Arithmetic.{is_true, decided}
 use Rattle.seg_exec.specs.inner.steps.Reached.{Standing, Served, Advances}
 use Rattle.seg_exec.specs.inner.steps.Sizes.{size_of_expression, size_of_arguments, size_of_statement, size_of_all, size_of_arms, size_of_continuation, size_of_work}
 use Rattle.seg_exec.specs.inner.steps.Continuations.{Continuation, Evaluate, Execute, Rest, Choose, Chosen, Turn, Gather, Take, Negate, Invert, Right, Apply, ReadElement, ReadGridElement, GiveVar, GiveCell, GiveElement, GiveGridElement, PrintValue, Discard, Unwind, Suspend, Leave, Config, top, without_operand}
-use Rattle.seg_exec.specs.inner.steps.Steps.{Step, asked_unit, unit_or, chosen_by, turned_by, entered_by, gathered, gathering, right_by, applied, read_at, written_at, unwound, unwound_past, suspended, suspended_past, recovered_from, worked, evaluated, executed, rested, choosing, step_by, step_of}
+use Rattle.seg_exec.specs.inner.steps.Steps.{Step, Recovery, ToCaller, OfBlock, NoRecovery, asked_unit, unit_or, chosen_by, turned_by, entered_by, gathered, gathering, right_by, applied, read_at, written_at, unwound, unwound_past, suspended, suspended_past, recovered_from, worked, evaluated, executed, rested, choosing, step_by, step_of}
 
 -- a step that is not the end has no more fuel, and, with as much fuel, less work
 abbrev FallsIn : ℕ → ℕ → Request → Config → Type 0
@@ -174,19 +172,19 @@ some_work (Take taken args goal) = omega arith
 some_work (Right op right place) = omega arith
 some_work _ = omega arith
 
-past_falls : (recovered : Recovered) (size : ℕ) (c : Config) → 0 < size → Falls c.fuel (1 + (size + size_of_work c.work)) (unwound_past recovered c)
-past_falls (recovers.Caller vars) size c h = (omega arith, λ e. omega arith)
-past_falls (recovers.Block position) size c h = (omega arith, λ e. omega arith)
-past_falls recovers.Nothing size c h = (omega arith, λ e. omega arith)
+past_falls : (recovered : Recovery) (size : ℕ) (c : Config) → 0 < size → Falls c.fuel (1 + (size + size_of_work c.work)) (unwound_past recovered c)
+past_falls (ToCaller vars) size c h = (omega arith, λ e. omega arith)
+past_falls (OfBlock position) size c h = (omega arith, λ e. omega arith)
+past_falls NoRecovery size c h = (omega arith, λ e. omega arith)
 
 unwound_falls : (work : List Continuation) (c : Config) → Falls c.fuel (1 + size_of_work work) (unwound work c)
 unwound_falls [] c = tt
 unwound_falls (next ∷ work) c = past_falls (recovered_from next) (size_of_continuation next) (record c { work = work }) (some_work next)
 
-stopped_falls : (recovered : Recovered) (operation : Operation) (positions : List Position) (size : ℕ) (c : Config) → 0 < size → Falls c.fuel (1 + (size + size_of_work c.work)) (suspended_past recovered operation positions c)
-stopped_falls (recovers.Caller vars) operation positions size c h = (omega arith, λ e. omega arith)
-stopped_falls (recovers.Block position) operation positions size c h = (omega arith, λ e. omega arith)
-stopped_falls recovers.Nothing operation positions size c h = (omega arith, λ e. omega arith)
+stopped_falls : (recovered : Recovery) (operation : Operation) (positions : List Position) (size : ℕ) (c : Config) → 0 < size → Falls c.fuel (1 + (size + size_of_work c.work)) (suspended_past recovered operation positions c)
+stopped_falls (ToCaller vars) operation positions size c h = (omega arith, λ e. omega arith)
+stopped_falls (OfBlock position) operation positions size c h = (omega arith, λ e. omega arith)
+stopped_falls NoRecovery operation positions size c h = (omega arith, λ e. omega arith)
 
 suspended_falls : (operation : Operation) (positions : List Position) (work : List Continuation) (c : Config) → Falls c.fuel (1 + size_of_work work) (suspended operation positions work c)
 suspended_falls operation positions [] c = tt

@@ -1,3 +1,4 @@
+pub mod Bodies
 pub mod Continuations
 pub mod Endings
 pub mod Reached

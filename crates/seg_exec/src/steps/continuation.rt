@@ -1,7 +1,7 @@
 //! Continuation frames: what the evaluator still has to do, one frame for each thing.
-ghost use Rattle.std.specs.Prelude.{◌≡◌};
+ghost use Rattle.std.specs.Prelude.{◌≡◌, ℤ, List};
 ghost use Rattle.seg_exec.specs.inner.steps.Steps.{recovered_from};
-ghost use Rattle.seg_exec.specs.inner.steps.Views.{continuation_of};
+ghost use Rattle.seg_exec.specs.inner.steps.Views.{callers_below, callers_past, continuation_of, recovery_of};
 
 use crate::frame::Position;
 use crate::operation::Operation;
@@ -170,8 +170,8 @@ pub(crate) enum Continuation<'a> {
     Take(Box<Gathering<'a>>),
     /// Stop the segment at a task operation.
     Suspend(Held),
-    /// Return 0 from a method to its caller, which has these variables.
-    Leave(Ints),
+    /// Return 0 from a method to its caller, which has so many variables, the last of those of the callers.
+    Leave(usize),
 }
 
 /// What is left of a block.
@@ -188,8 +188,8 @@ pub(crate) struct OpenBlock<'a> {
 /// What unwinding recovers from a continuation frame.
 #[derive(Debug, Drop)]
 pub(crate) enum Recovered {
-    /// The variables of the caller of a method.
-    Caller(Ints),
+    /// How many variables the caller of a method has.
+    Caller(usize),
     /// The position of an open block.
     Block(Position),
     /// Nothing.
@@ -200,10 +200,11 @@ impl Continuation<'_> {
     /// What unwinding recovers from this frame.
     #[inline(always)]
     pub(crate) fn recovered(self) -> Recovered
-        ensures { result ≡ recovered_from (continuation_of self.entry) }
+        ensures recovery { (callers : List ℤ) → recovery_of callers result ≡ recovered_from (continuation_of callers self.entry) }
+        ensures callers { (callers : List ℤ) → callers_past result callers ≡ callers_below self.entry callers }
     {
         match self {
-            Continuation::Leave(vars) => Recovered::Caller(vars),
+            Continuation::Leave(count) => Recovered::Caller(count),
             Continuation::Rest { block, at, .. } => Recovered::Block(Position { block, after: at }),
             Continuation::Evaluate(_) => Recovered::Nothing,
             Continuation::Execute(_) => Recovered::Nothing,

@@ -18,7 +18,7 @@ impl<'a> Machine<'a> {
     fn var(&self, var: u32) -> i32
         ensures { result ≡ var_value var (config_of self.now) }
     {
-        self.vars.get(var as usize).copied().unwrap_or(0)
+        self.vars.as_slice().get(var as usize).copied().unwrap_or(0)
     }
 
     /// Schedules the read of an element of an array.

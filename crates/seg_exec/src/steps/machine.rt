@@ -1,16 +1,16 @@
 //! The state of the evaluator: its continuation, its operand stack, the variables and the counts.
-ghost use Rattle.std.specs.Prelude.{◌≡◌, [], IfOk};
+ghost use Rattle.std.specs.Prelude.{◌≡◌, IfOk};
 ghost use Rattle.seg_exec.specs.inner.steps.Continuations.{Evaluate, to_do, top, with_operand, without_operand};
 ghost use Rattle.seg_exec.specs.inner.steps.Steps.{on};
 ghost use Rattle.seg_exec.specs.declared.steps.request.Request.TheVariants.{End};
 ghost use Rattle.seg_exec.specs.declared.steps.request.Ending.TheVariants.{Faulted};
-ghost use Rattle.seg_exec.specs.inner.steps.Views.{continuation_of, config_of, use_of};
+ghost use Rattle.seg_exec.specs.inner.steps.Views.{config_of, config_with, use_of};
 
 use crate::steps::continuation::{Continuation, OpenBlock, ValueUse};
 use crate::steps::pushdown::Pushdown;
 use crate::steps::request::{Ending, Request};
-use std::alloc::Global;
-use twe_base::{FaultKind, Ints, Memory, Place};
+use crate::steps::variables::Variables;
+use twe_base::{FaultKind, Memory, Place};
 use twe_program::Expr;
 
 /// The request to end with a fault at a place of the text.
@@ -27,14 +27,12 @@ pub(crate) struct Machine<'a> {
     pub(crate) work: Pushdown<Continuation<'a>>,
     /// The operand stack: the values that were computed and not yet used, the latest on top.
     pub(crate) operands: Pushdown<i32>,
-    /// The values of the variables of the active body.
-    pub(crate) vars: Ints,
+    /// The values of the variables of the active body and of its callers.
+    pub(crate) vars: Variables,
     /// The fuel that is left, in units.
     pub(crate) fuel: u64,
     /// How many method calls are active.
     pub(crate) calls: u32,
-    /// Lists that no call uses any more. A call takes one for its variables, so that most calls take no memory.
-    pub(crate) spare: Pushdown<Ints>,
     /// What is left of a block that comes before the continuation frames, at times when such a block comes next. It stands here
     /// so that what the steps return stays small.
     pub(crate) open: OpenBlock<'a>,
@@ -46,7 +44,7 @@ impl<'a> Machine<'a> {
     /// Pushes a continuation frame.
     #[inline(always)]
     pub(crate) fn push(&mut self, work: Continuation<'a>) -> Result<(), Memory>
-        ensures { IfOk result (λ _. config_of self.new ≡ to_do (continuation_of work.entry) (config_of self.old)) }
+        ensures { IfOk result (λ _. config_of self.new ≡ config_with work.entry self.old) }
     {
         self.work.push(work)
     }
@@ -80,22 +78,6 @@ impl<'a> Machine<'a> {
         self.push(Continuation::UseValue(then))?;
         self.push(Continuation::Evaluate(expr))?;
         Ok(Request::Nothing)
-    }
-
-    /// An empty list: a spare one, or else a new one with memory for `room` items.
-    #[inline(always)]
-    pub(crate) fn empty_list(&mut self, alloc: Global, room: usize) -> Result<Ints, Memory>
-        ensures list { IfOk result (λ list. list ≡ []) }
-        ensures config { config_of self.new ≡ config_of self.old }
-    {
-        match self.spare.pop() {
-            None => Ints::with_capacity(alloc, room),
-            Some(spare) => {
-                let mut list = spare;
-                list.truncate(0);
-                Ok(list)
-            }
-        }
     }
 
     /// Pops the latest value; returns 0 if there is none.

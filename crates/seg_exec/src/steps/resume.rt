@@ -2,16 +2,18 @@
 ghost use Rattle.std.specs.Prelude.{◌≡◌, IfOk, drop, pos};
 ghost use Rattle.twe_program.specs.Statement.{statements_of};
 ghost use Rattle.twe_program.specs.inner.StatementView.{arms_of};
+ghost use Rattle.seg_exec.specs.declared.steps.continuation.Continuation.TheVariants.{Leave};
+ghost use Rattle.seg_exec.specs.inner.steps.Bodies.{last_of};
+ghost use Rattle.seg_exec.specs.inner.steps.Continuations.{Suspend, Unwind, to_do, top, without_operand};
 ghost use Rattle.seg_exec.specs.inner.steps.Steps.{back_with, chosen_next, choosing, on, rested, returned, suspended, turned_next, unwound};
-ghost use Rattle.seg_exec.specs.inner.steps.Views.{config_of, continuations_of};
+ghost use Rattle.seg_exec.specs.inner.steps.Views.{config_of, config_under};
 
 use crate::arithmetic::is_true;
 use crate::steps::continuation::{Continuation, Recovered, ValueUse};
 use crate::steps::held::Held;
 use crate::steps::machine::{Machine, fault};
 use crate::steps::request::{Ending, Request};
-use std::mem;
-use twe_base::{FaultKind, Ints, Memory, Place};
+use twe_base::{FaultKind, Memory, Place};
 use twe_program::{Arm, Block, Stmt};
 
 impl<'a> Machine<'a> {
@@ -122,62 +124,82 @@ impl<'a> Machine<'a> {
         Ok(Request::Nothing)
     }
 
-    /// Returns to the caller of a method, whose variables are `vars`, with a value.
+    /// Returns to the caller of a method, which has `count` variables, with a value.
     #[inline(always)]
-    pub(crate) fn back(&mut self, value: i32, vars: Ints) -> Result<(), Memory>
-        ensures { IfOk result (λ _. config_of self.new ≡ back_with value vars (config_of self.old)) }
+    pub(crate) fn back(&mut self, value: i32, count: usize) -> Result<(), Memory>
+        ensures { IfOk result (λ _. config_of self.new
+            ≡ back_with value (last_of count self.old.vars.callers) (config_under (Leave count) self.old)) }
     {
-        self.push_operand(value)?;
-        let spare = mem::replace(&mut self.vars, vars);
-        self.spare.push(spare)?;
+        self.vars.leave(count);
         self.calls = self.calls.saturating_sub(1);
-        Ok(())
+        self.push_operand(value)
     }
 
     /// Returns from a method at the end of its body, with 0.
     #[inline(always)]
-    pub(crate) fn leave(&mut self, vars: Ints) -> Result<Request, Memory>
-        ensures { IfOk result (λ request. (request, config_of self.new) ≡ on (back_with (pos 0) vars (config_of self.old))) }
+    pub(crate) fn leave(&mut self, count: usize) -> Result<Request, Memory>
+        ensures { IfOk result (λ request. (request, config_of self.new)
+            ≡ on (back_with (pos 0) (last_of count self.old.vars.callers) (config_under (Leave count) self.old))) }
     {
-        self.back(0, vars)?;
+        self.back(0, count)?;
+        Ok(Request::Nothing)
+    }
+
+    /// Returns the latest value to the caller of a method, which has `count` variables.
+    #[inline(always)]
+    fn hand_back(&mut self, count: usize) -> Result<Request, Memory>
+        ensures { IfOk result (λ request. (request, config_of self.new) ≡ on (back_with (top self.old.operands)
+            (last_of count self.old.vars.callers) (without_operand (config_under (Leave count) self.old)))) }
+    {
+        let value = self.operands.pop_or(0);
+        self.back(value, count)?;
+        Ok(Request::Nothing)
+    }
+
+    /// Schedules the rest of a return.
+    fn unwind_on(&mut self) -> Result<Request, Memory>
+        ensures { IfOk result (λ request. (request, config_of self.new) ≡ on (to_do Unwind (config_of self.old))) }
+    {
+        self.push(Continuation::UseValue(ValueUse::Unwind))?;
+        Ok(Request::Nothing)
+    }
+
+    /// Schedules the rest of a suspension.
+    fn suspend_below(&mut self, suspension: Held) -> Result<Request, Memory>
+        ensures { IfOk result (λ request. (request, config_of self.new)
+            ≡ on (to_do (Suspend suspension.operation suspension.positions) (config_of self.old))) }
+    {
+        self.push(Continuation::Suspend(suspension))?;
         Ok(Request::Nothing)
     }
 
     /// Unwinds the continuation up to the caller of the active method, or to its end, and returns the latest value.
     pub(crate) fn unwind(&mut self) -> Result<Request, Memory>
         ensures { IfOk result (λ request. (request, config_of self.new) ≡
-            unwound (continuations_of self.old.work) (config_of self.old)) }
+            unwound (config_of self.old).work (config_of self.old)) }
     {
         let Some(work) = self.work.pop() else {
             return Ok(Request::End(Ending::Returned(self.pop_operand())));
         };
         match work.recovered() {
-            Recovered::Caller(vars) => {
-                let value = self.pop_operand();
-                self.back(value, vars)?;
-            }
-            Recovered::Block(_) => self.push(Continuation::UseValue(ValueUse::Unwind))?,
-            Recovered::Nothing => self.push(Continuation::UseValue(ValueUse::Unwind))?,
+            Recovered::Caller(count) => self.hand_back(count),
+            Recovered::Block(_) => self.unwind_on(),
+            Recovered::Nothing => self.unwind_on(),
         }
-        Ok(Request::Nothing)
     }
 
     /// Returns the latest value to the caller of the active method, or from the whole body, at once.
     #[inline(always)]
     pub(crate) fn give_back(&mut self) -> Result<Request, Memory>
         ensures { IfOk result (λ request. (request, config_of self.new) ≡
-            returned (continuations_of self.old.work) (config_of self.old)) }
+            returned (config_of self.old).work (config_of self.old)) }
     {
         'frames: loop {
             let Some(work) = self.work.pop() else {
                 return Ok(Request::End(Ending::Returned(self.pop_operand())));
             };
             match work.recovered() {
-                Recovered::Caller(vars) => {
-                    let value = self.pop_operand();
-                    self.back(value, vars)?;
-                    return Ok(Request::Nothing);
-                }
+                Recovered::Caller(count) => return self.hand_back(count),
                 Recovered::Block(_) => {}
                 Recovered::Nothing => {}
             }
@@ -187,20 +209,19 @@ impl<'a> Machine<'a> {
     /// Unwinds the continuation up to its end and collects the positions of the open blocks, then ends with the operation.
     pub(crate) fn suspend_on(&mut self, suspension: Held) -> Result<Request, Memory>
         ensures { IfOk result (λ request. (request, config_of self.new) ≡
-            suspended suspension.operation suspension.positions (continuations_of self.old.work) (config_of self.old)) }
+            suspended suspension.operation suspension.positions (config_of self.old).work (config_of self.old)) }
     {
         let Some(work) = self.work.pop() else {
             return Ok(Request::End(Ending::Suspended(suspension)));
         };
         match work.recovered() {
-            Recovered::Caller(vars) => self.back(0, vars)?,
+            Recovered::Caller(count) => self.leave(count),
             Recovered::Block(position) => {
                 let mut suspension = suspension;
                 suspension.close(position)?;
-                self.push(Continuation::Suspend(suspension))?;
+                self.suspend_below(suspension)
             }
-            Recovered::Nothing => self.push(Continuation::Suspend(suspension))?,
+            Recovered::Nothing => self.suspend_below(suspension),
         }
-        Ok(Request::Nothing)
     }
 }

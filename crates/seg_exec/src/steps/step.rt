@@ -48,33 +48,4 @@ impl<'a> Machine<'a> {
             ValueUse::Unwind => self.unwind(),
         }
     }
-
-    /// Runs one continuation frame.
-    pub(crate) fn act(
-        &mut self,
-        alloc: Global,
-        p: &'a Prog,
-        work: Continuation<'a>,
-    ) -> Result<Request, Memory>
-        ensures { IfOk result (λ request. (request, config_of self.new) ≡
-            worked p.now (continuation_of work.entry) (config_of self.old)) }
-    {
-        match work {
-            Continuation::Evaluate(expr) => self.evaluate(alloc, p, expr),
-            Continuation::Execute(stmt) => self.execute(alloc, stmt),
-            Continuation::Rest { block, at, stmts } => self.rest(block, at, stmts),
-            Continuation::Choose { block, arms, last } => self.choose(block, arms, last),
-            Continuation::UseValue(then) => self.use_value(p, &then),
-            Continuation::Gather(gathering) => {
-                let Gathering { taken, args, goal } = Box::into_inner(gathering);
-                self.gather_next(alloc, p, taken, args, goal)
-            }
-            Continuation::Take(gathering) => {
-                let Gathering { taken, args, goal } = Box::into_inner(gathering);
-                self.take_argument(alloc, taken, args, goal)
-            }
-            Continuation::Suspend(suspension) => self.suspend_on(suspension),
-            Continuation::Leave(vars) => self.leave(vars),
-        }
-    }
 }

@@ -1,13 +1,15 @@
 //! Assignments whose expressions call no method, carried out at once.
 ghost use Rattle.std.specs.Prelude.{◌≡◌, slice_set};
 ghost use Rattle.seg_exec.specs.Access.{ways_of};
+ghost use Rattle.seg_exec.specs.inner.steps.Bodies.{with_active};
 ghost use Rattle.seg_exec.specs.inner.strides.Assignments.{Does, MayDo, MayWriteAt, WritesAt, executing, to_cell, to_element, to_variable};
 
 use crate::cells::Cells;
 use crate::elements::{cell_number, element_number};
+use crate::steps::variables::Variables;
 use crate::strides::plain::is_plain;
 use crate::strides::value::{Fault, value_of};
-use twe_base::{FaultKind, Ints, Place};
+use twe_base::{FaultKind, Place};
 use twe_program::{Expr, Prog, Stmt, StmtKind};
 
 /// What became of a statement.
@@ -22,8 +24,8 @@ pub(crate) enum Carried {
 }
 
 /// Assigns a value to a variable, if there is such a variable.
-fn put_var(vars: &mut Ints, var: u32, value: i32)
-    ensures { vars.new ≡ slice_set vars.old var value }
+fn put_var(vars: &mut Variables, var: u32, value: i32)
+    ensures { vars.new ≡ with_active (slice_set vars.old.active var value) vars.old }
 {
     let at = var as usize;
     if at < vars.len() {
@@ -33,10 +35,17 @@ fn put_var(vars: &mut Ints, var: u32, value: i32)
 
 /// Evaluates an expression and assigns its value to a variable.
 #[inline(always)]
-fn set_var<C: Cells>(var: u32, value: &Expr, p: &Prog, vars: &mut Ints, cells: &mut C) -> Carried
-    requires { MayDo p.now (ways_of C.known C.may_read C.may_write C.rule) (to_variable value.now var) vars.old cells.old }
-    ensures { Does p.now (ways_of C.known C.may_read C.may_write C.rule)
-        (to_variable value.now var) vars.old cells.old result vars.new cells.new }
+fn set_var<C: Cells>(
+    var: u32,
+    value: &Expr,
+    p: &Prog,
+    vars: &mut Variables,
+    cells: &mut C,
+) -> Carried
+    requires { MayDo p.now (ways_of C.known C.may_read C.may_write C.rule) (to_variable value.now var) vars.old.active cells.old }
+    ensures does { Does p.now (ways_of C.known C.may_read C.may_write C.rule)
+        (to_variable value.now var) vars.old.active cells.old result vars.new.active cells.new }
+    ensures callers { vars.new.callers ≡ vars.old.callers }
 {
     if !is_plain(value) {
         return Carried::Left;
@@ -52,10 +61,17 @@ fn set_var<C: Cells>(var: u32, value: &Expr, p: &Prog, vars: &mut Ints, cells: &
 
 /// Evaluates an expression and assigns its value to a cell.
 #[inline(always)]
-fn set_cell<C: Cells>(cell: u32, value: &Expr, p: &Prog, vars: &mut Ints, cells: &mut C) -> Carried
-    requires { MayDo p.now (ways_of C.known C.may_read C.may_write C.rule) (to_cell value.now cell) vars.old cells.old }
-    ensures { Does p.now (ways_of C.known C.may_read C.may_write C.rule)
-        (to_cell value.now cell) vars.old cells.old result vars.new cells.new }
+fn set_cell<C: Cells>(
+    cell: u32,
+    value: &Expr,
+    p: &Prog,
+    vars: &mut Variables,
+    cells: &mut C,
+) -> Carried
+    requires { MayDo p.now (ways_of C.known C.may_read C.may_write C.rule) (to_cell value.now cell) vars.old.active cells.old }
+    ensures does { Does p.now (ways_of C.known C.may_read C.may_write C.rule)
+        (to_cell value.now cell) vars.old.active cells.old result vars.new.active cells.new }
+    ensures callers { vars.new.callers ≡ vars.old.callers }
 {
     if !is_plain(value) {
         return Carried::Left;
@@ -95,13 +111,14 @@ fn set_element<C: Cells>(
     value: &Expr,
     place: Place,
     p: &Prog,
-    vars: &mut Ints,
+    vars: &mut Variables,
     cells: &mut C,
 ) -> Carried
     requires { MayDo p.now (ways_of C.known C.may_read C.may_write C.rule)
-        (to_element index.now value.now array place) vars.old cells.old }
-    ensures { Does p.now (ways_of C.known C.may_read C.may_write C.rule)
-        (to_element index.now value.now array place) vars.old cells.old result vars.new cells.new }
+        (to_element index.now value.now array place) vars.old.active cells.old }
+    ensures does { Does p.now (ways_of C.known C.may_read C.may_write C.rule)
+        (to_element index.now value.now array place) vars.old.active cells.old result vars.new.active cells.new }
+    ensures callers { vars.new.callers ≡ vars.old.callers }
 {
     if !is_plain(index) {
         return Carried::Left;
@@ -120,10 +137,16 @@ fn set_element<C: Cells>(
 
 /// Executes an assignment to a variable, a cell or an element of an array, if its expressions call no method.
 #[inline(always)]
-pub(crate) fn assign<C: Cells>(stmt: &Stmt, p: &Prog, vars: &mut Ints, cells: &mut C) -> Carried
-    requires { MayDo p.now (ways_of C.known C.may_read C.may_write C.rule) (executing stmt.now) vars.old cells.old }
-    ensures { Does p.now (ways_of C.known C.may_read C.may_write C.rule)
-        (executing stmt.now) vars.old cells.old result vars.new cells.new }
+pub(crate) fn assign<C: Cells>(
+    stmt: &Stmt,
+    p: &Prog,
+    vars: &mut Variables,
+    cells: &mut C,
+) -> Carried
+    requires { MayDo p.now (ways_of C.known C.may_read C.may_write C.rule) (executing stmt.now) vars.old.active cells.old }
+    ensures does { Does p.now (ways_of C.known C.may_read C.may_write C.rule)
+        (executing stmt.now) vars.old.active cells.old result vars.new.active cells.new }
+    ensures callers { vars.new.callers ≡ vars.old.callers }
 {
     match &stmt.kind {
         StmtKind::Let { var, value } => set_var(*var, value, p, vars, cells),

@@ -1,17 +1,20 @@
 //! The arguments of a call that call no method, evaluated at once.
-ghost use Rattle.std.specs.Prelude.{◌≡◌, true, [], Some, IfOk, IfSome, option_copied, slice_get};
-ghost use Rattle.twe_program.specs.Expression.{arguments_of};
+ghost use Rattle.std.specs.Prelude.{◌≡◌, ◌≤◌, true, [], Some, IfOk, IfSome, drop, length, option_copied, slice_get};
+ghost use Rattle.twe_program.specs.Expression.{arguments_of, no_more};
 ghost use Rattle.seg_exec.specs.declared.steps.continuation.Goal.TheVariants.{Enter};
-ghost use Rattle.seg_exec.specs.inner.steps.Continuations.{Gather};
-ghost use Rattle.seg_exec.specs.inner.steps.Steps.{entering};
-ghost use Rattle.seg_exec.specs.inner.steps.Views.{config_of};
+ghost use Rattle.seg_exec.specs.inner.steps.Continuations.{Gather, Take};
+ghost use Rattle.seg_exec.specs.inner.steps.Steps.{entering, faulted};
+ghost use Rattle.seg_exec.specs.inner.steps.Views.{config_before, config_of};
 ghost use Rattle.seg_exec.specs.inner.strides.Plainly.{is_plain};
-ghost use Rattle.seg_exec.specs.inner.strides.Moving.{MovesOn, step_on, course};
-ghost use Rattle.seg_exec.specs.inner.strides.Strides.{MayStride};
+ghost use Rattle.seg_exec.specs.inner.strides.Moving.{Moves, MovesOn, gathering_from, step_on, course};
+ghost use Rattle.seg_exec.specs.inner.strides.Strides.{MayGo, MayStride};
+ghost use Rattle.seg_exec.specs.inner.steps.Reached.{standing};
+ghost use Rattle.seg_exec.specs.Access.{ways_of};
 
-use crate::body::{statements, vars_at_start};
+use crate::body::{start, statements};
 use crate::cells::Cells;
-use crate::steps::continuation::{Continuation, Goal, OpenBlock};
+use crate::operation::Operation;
+use crate::steps::continuation::{Continuation, Gathering, Goal, OpenBlock};
 use crate::steps::machine::Machine;
 use crate::steps::request::Ending;
 use crate::strides::onward::Onward;
@@ -19,7 +22,6 @@ use crate::strides::plain::is_plain;
 use crate::strides::serve::serve;
 use crate::strides::value::value_of;
 use std::alloc::Global;
-use std::mem;
 use twe_base::{FaultKind, Ints, MAX_ACTIVE_CALLS, Memory, Place};
 use twe_program::{Args, Decl, Expr, Prog};
 
@@ -33,37 +35,42 @@ fn plain_argument(args: &[Expr], at: usize) -> Option<&Expr>
     }
 }
 
-/// Enters a method, which takes a unit of fuel: its body comes next. It is a fault if no fuel is left, or if
-/// `MAX_ACTIVE_CALLS` calls are active already.
+/// Ends the run with a fault, and drops the values of the arguments.
+#[inline(always)]
+fn refuse(machine: &mut Machine<'_>, count: usize, kind: FaultKind, place: Place) -> Onward
+    requires { count ≤ length machine.old.vars.active }
+    ensures { step_on (course result machine.new) (config_of machine.new)
+        ≡ faulted kind place (config_before count machine.old) }
+{
+    machine.vars.truncate(count);
+    machine.ending = Some(Ending::Faulted { kind, place });
+    Onward::End
+}
+
+/// Enters a method, which takes a unit of fuel: its body comes next. Its arguments are the variables of the active body after
+/// the first `count`. It is a fault if no fuel is left, or if `MAX_ACTIVE_CALLS` calls are active already.
 #[inline(always)]
 fn enter<'a>(
     machine: &mut Machine<'a>,
     decl: Option<&'a Decl>,
-    args: Ints,
+    count: usize,
     place: Place,
 ) -> Result<Onward, Memory>
+    requires { count ≤ length machine.old.vars.active }
     ensures { IfOk result (λ onward. step_on (course onward machine.new) (config_of machine.new)
-        ≡ entering (option_copied decl.entry) args place (config_of machine.old)) }
+        ≡ entering (option_copied decl.entry) (drop count machine.old.vars.active) place (config_before count machine.old)) }
 {
     if machine.fuel == 0 {
-        machine.ending = Some(Ending::Faulted {
-            kind: FaultKind::Fuel,
-            place,
-        });
-        return Ok(Onward::End);
+        return Ok(refuse(machine, count, FaultKind::Fuel, place));
     }
     machine.fuel -= 1;
     if machine.calls >= MAX_ACTIVE_CALLS {
-        machine.ending = Some(Ending::Faulted {
-            kind: FaultKind::Depth,
-            place,
-        });
-        return Ok(Onward::End);
+        return Ok(refuse(machine, count, FaultKind::Depth, place));
     }
     machine.calls += 1;
-    let vars = vars_at_start(decl, args)?;
-    let caller = mem::replace(&mut machine.vars, vars);
-    machine.push(Continuation::Leave(caller))?;
+    machine.vars.enter(count);
+    start(decl, &mut machine.vars)?;
+    machine.push(Continuation::Leave(count))?;
     machine.open = OpenBlock {
         block: 0,
         at: 0,
@@ -72,8 +79,50 @@ fn enter<'a>(
     Ok(Onward::Enter)
 }
 
-/// Makes the next step: enters a method if all arguments have values, and else evaluates an argument that calls a method, or
-/// does what the arguments are for.
+/// Does what the arguments are for, once all of them have values: enters a method, or stops at the making of a task. The values
+/// are the variables of the active body after the first `count`.
+#[inline(always)]
+fn gathered<'a, C: Cells>(
+    alloc: Global,
+    p: &'a Prog,
+    machine: &mut Machine<'a>,
+    cells: &mut C,
+    prints: &mut Ints,
+    count: usize,
+    goal: Goal,
+) -> Result<Onward, Memory>
+    requires within { count ≤ length machine.old.vars.active }
+    requires may { MayGo p.now (ways_of C.known C.may_read C.may_write C.rule)
+        (gathering_from count no_more goal machine.old cells.old prints.old) }
+    ensures { IfOk result (λ onward. Moves p.now (ways_of C.known C.may_read C.may_write C.rule)
+        (gathering_from count no_more goal machine.old cells.old prints.old)
+        (course onward machine.new) (standing machine.new cells.new prints.new)) }
+{
+    match goal {
+        Goal::Enter { method, place } => {
+            enter(machine, p.methods.get(method as usize), count, place)
+        }
+        Goal::Make {
+            future,
+            task,
+            spawned,
+            place,
+        } => {
+            let args = machine.vars.split(alloc, count)?;
+            let operation = Operation::Make {
+                future,
+                task,
+                args,
+                spawned,
+                place,
+            };
+            let request = machine.suspend(alloc, operation, place)?;
+            serve(machine, cells, prints, request)
+        }
+    }
+}
+
+/// Makes the next step: does what the arguments are for if all have values, and else evaluates an argument that calls a method.
 #[inline(always)]
 fn gather_next<'a, C: Cells>(
     alloc: Global,
@@ -81,29 +130,65 @@ fn gather_next<'a, C: Cells>(
     machine: &mut Machine<'a>,
     cells: &mut C,
     prints: &mut Ints,
-    taken: Ints,
+    count: usize,
     args: &'a [Expr],
     goal: Goal,
 ) -> Result<Onward, Memory>
-    requires { MayStride p.now C.known C.may_read C.may_write C.rule (Gather taken (arguments_of args.now) goal)
-        machine.old cells.old prints.old }
-    ensures { IfOk result (MovesOn p.now C.known C.may_read C.may_write C.rule (Gather taken (arguments_of args.now) goal)
-        machine.old cells.old prints.old machine.new cells.new prints.new) }
+    requires within { count ≤ length machine.old.vars.active }
+    requires may { MayGo p.now (ways_of C.known C.may_read C.may_write C.rule)
+        (gathering_from count (arguments_of args.now) goal machine.old cells.old prints.old) }
+    ensures { IfOk result (λ onward. Moves p.now (ways_of C.known C.may_read C.may_write C.rule)
+        (gathering_from count (arguments_of args.now) goal machine.old cells.old prints.old)
+        (course onward machine.new) (standing machine.new cells.new prints.new)) }
 {
-    match (args, goal) {
-        ([], Goal::Enter { method, place }) => {
-            enter(machine, p.methods.get(method as usize), taken, place)
-        }
-        _ => {
-            let request = machine.gather_next(alloc, p, taken, args, goal)?;
+    match args {
+        [] => gathered(alloc, p, machine, cells, prints, count, goal),
+        [first, others @ ..] => {
+            let taken = machine.vars.split(alloc, count)?;
+            let request = machine.argument(alloc, taken, first, others, goal)?;
             serve(machine, cells, prints, request)
         }
     }
 }
 
-/// Evaluates the arguments up to the first that calls a method, and then makes the next step.
+/// Evaluates the arguments up to the first that calls a method, and then makes the next step. The values of those before them
+/// are the variables of the active body after the first `count`.
 #[inline(always)]
-pub(crate) fn gather<'a, C: Cells>(
+fn gather<'a, C: Cells>(
+    alloc: Global,
+    p: &'a Prog,
+    machine: &mut Machine<'a>,
+    cells: &mut C,
+    prints: &mut Ints,
+    count: usize,
+    args: &'a [Expr],
+    goal: Goal,
+) -> Result<Onward, Memory>
+    requires within { count ≤ length machine.old.vars.active }
+    requires may { MayGo p.now (ways_of C.known C.may_read C.may_write C.rule)
+        (gathering_from count (arguments_of args.now) goal machine.old cells.old prints.old) }
+    ensures { IfOk result (λ onward. Moves p.now (ways_of C.known C.may_read C.may_write C.rule)
+        (gathering_from count (arguments_of args.now) goal machine.old cells.old prints.old)
+        (course onward machine.new) (standing machine.new cells.new prints.new)) }
+{
+    let mut next = 0;
+    while let Some(arg) = plain_argument(args, next) {
+        match value_of(arg, p, machine.vars.first(count), cells) {
+            Err(fault) => {
+                machine.vars.truncate(count);
+                machine.ending = Some(fault.ending());
+                return Ok(Onward::End);
+            }
+            Ok(value) => machine.vars.push(value)?,
+        }
+        next += 1;
+    }
+    let args = &args[next..];
+    gather_next(alloc, p, machine, cells, prints, count, args, goal)
+}
+
+/// Evaluates the arguments that have no value yet as far as they call no method.
+pub(crate) fn gather_more<'a, C: Cells>(
     alloc: Global,
     p: &'a Prog,
     machine: &mut Machine<'a>,
@@ -118,20 +203,30 @@ pub(crate) fn gather<'a, C: Cells>(
     ensures { IfOk result (MovesOn p.now C.known C.may_read C.may_write C.rule (Gather taken (arguments_of args.now) goal)
         machine.old cells.old prints.old machine.new cells.new prints.new) }
 {
-    let mut values = taken;
-    let mut next = 0;
-    while let Some(arg) = plain_argument(args, next) {
-        match value_of(arg, p, machine.vars.as_slice(), cells) {
-            Err(fault) => {
-                machine.ending = Some(fault.ending());
-                return Ok(Onward::End);
-            }
-            Ok(value) => values.push(value)?,
-        }
-        next += 1;
-    }
-    let args = &args[next..];
-    gather_next(alloc, p, machine, cells, prints, values, args, goal)
+    let count = machine.vars.len();
+    machine.vars.push_all(taken.as_slice())?;
+    gather(alloc, p, machine, cells, prints, count, args, goal)
+}
+
+/// Takes the value of an argument, and evaluates those after it as far as they call no method.
+pub(crate) fn take<'a, C: Cells>(
+    alloc: Global,
+    p: &'a Prog,
+    machine: &mut Machine<'a>,
+    cells: &mut C,
+    prints: &mut Ints,
+    gathering: Gathering<'a>,
+) -> Result<Onward, Memory>
+    requires { MayStride p.now C.known C.may_read C.may_write C.rule
+        (Take gathering.taken (arguments_of gathering.args.now) gathering.goal) machine.old cells.old prints.old }
+    ensures { IfOk result (MovesOn p.now C.known C.may_read C.may_write C.rule
+        (Take gathering.entry.taken (arguments_of gathering.entry.args.now) gathering.entry.goal)
+        machine.old cells.old prints.old machine.new cells.new prints.new) }
+{
+    let Gathering { taken, args, goal } = gathering;
+    let mut taken = taken;
+    taken.push(machine.pop_operand())?;
+    gather_more(alloc, p, machine, cells, prints, taken, args, goal)
 }
 
 /// Evaluates the arguments of a call as far as they call no method; if all have values, enters the method.
@@ -151,7 +246,7 @@ pub(crate) fn call<'a, C: Cells>(
     ensures { IfOk result (MovesOn p.now C.known C.may_read C.may_write C.rule (Gather [] args.now (Enter method place))
         machine.old cells.old prints.old machine.new cells.new prints.new) }
 {
-    let taken = machine.empty_list(alloc, args.items.len())?;
+    let count = machine.vars.len();
     let goal = Goal::Enter { method, place };
     gather(
         alloc,
@@ -159,7 +254,7 @@ pub(crate) fn call<'a, C: Cells>(
         machine,
         cells,
         prints,
-        taken,
+        count,
         args.items.as_slice(),
         goal,
     )

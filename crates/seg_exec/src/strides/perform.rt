@@ -2,9 +2,10 @@
 ghost use Rattle.std.specs.Prelude.{◌<◌, IfOk, drop, length};
 ghost use Rattle.twe_program.specs.Statement.{statements_of};
 ghost use Rattle.seg_exec.specs.inner.steps.Continuations.{Execute, Rest};
-ghost use Rattle.seg_exec.specs.inner.strides.Moving.{MovesOn};
-ghost use Rattle.seg_exec.specs.inner.strides.Strides.{MayStride};
-ghost use Rattle.seg_exec.specs.inner.steps.Views.{continuation_of};
+ghost use Rattle.seg_exec.specs.inner.strides.Moving.{Moves, MovesOn, course};
+ghost use Rattle.seg_exec.specs.inner.strides.Strides.{MayGo, MayStride};
+ghost use Rattle.seg_exec.specs.inner.steps.Reached.{standing, standing_with};
+ghost use Rattle.seg_exec.specs.Access.{ways_of};
 
 use crate::cells::Cells;
 use crate::steps::continuation::{Continuation, Gathering, ValueUse};
@@ -13,11 +14,11 @@ use crate::strides::assign::{Carried, assign};
 use crate::strides::branch::branch;
 use crate::strides::choose::{choose, choose_first};
 use crate::strides::evaluate::{evaluate, evaluate_then, right_of};
-use crate::strides::gather::gather;
+use crate::strides::gather::{gather_more, take};
 use crate::strides::give::give;
 use crate::strides::onward::Onward;
 use crate::strides::plain::is_plain;
-use crate::strides::serve::{serve, step, use_value};
+use crate::strides::serve::{serve, use_value};
 use crate::strides::turn::turn;
 use std::alloc::Global;
 use twe_base::{Ints, Memory};
@@ -206,9 +207,10 @@ pub(crate) fn perform<'a, C: Cells>(
     prints: &mut Ints,
     work: Continuation<'a>,
 ) -> Result<Onward, Memory>
-    requires { MayStride p.now C.known C.may_read C.may_write C.rule (continuation_of work) machine.old cells.old prints.old }
-    ensures { IfOk result (MovesOn p.now C.known C.may_read C.may_write C.rule (continuation_of work.entry)
-        machine.old cells.old prints.old machine.new cells.new prints.new) }
+    requires { MayGo p.now (ways_of C.known C.may_read C.may_write C.rule) (standing_with work machine.old cells.old prints.old) }
+    ensures { IfOk result (λ onward. Moves p.now (ways_of C.known C.may_read C.may_write C.rule)
+        (standing_with work.entry machine.old cells.old prints.old)
+        (course onward machine.new) (standing machine.new cells.new prints.new)) }
 {
     match work {
         Continuation::Evaluate(expr) => evaluate(alloc, p, machine, cells, prints, expr),
@@ -225,8 +227,18 @@ pub(crate) fn perform<'a, C: Cells>(
         Continuation::UseValue(then) => use_value(p, machine, cells, prints, &then),
         Continuation::Gather(gathering) => {
             let Gathering { taken, args, goal } = Box::into_inner(gathering);
-            gather(alloc, p, machine, cells, prints, taken, args, goal)
+            gather_more(alloc, p, machine, cells, prints, taken, args, goal)
         }
-        work => step(alloc, p, machine, cells, prints, work),
+        Continuation::Take(gathering) => {
+            take(alloc, p, machine, cells, prints, Box::into_inner(gathering))
+        }
+        Continuation::Suspend(stop) => {
+            let request = machine.suspend_on(stop)?;
+            serve(machine, cells, prints, request)
+        }
+        Continuation::Leave(count) => {
+            let request = machine.leave(count)?;
+            serve(machine, cells, prints, request)
+        }
     }
 }

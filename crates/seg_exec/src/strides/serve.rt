@@ -2,17 +2,16 @@
 ghost use Rattle.std.specs.Prelude.{IfOk};
 ghost use Rattle.seg_exec.specs.inner.steps.Continuations.{Unwind};
 ghost use Rattle.seg_exec.specs.inner.steps.Reached.{MayRequest, standing};
-ghost use Rattle.seg_exec.specs.inner.steps.Views.{continuation_of, use_of};
+ghost use Rattle.seg_exec.specs.inner.steps.Views.{use_of};
 ghost use Rattle.seg_exec.specs.inner.strides.Moving.{MovesOn, Serves, course};
 ghost use Rattle.seg_exec.specs.inner.strides.Strides.{MayStride};
 ghost use Rattle.seg_exec.specs.Access.{ways_of};
 
 use crate::cells::Cells;
-use crate::steps::continuation::{Continuation, ValueUse};
+use crate::steps::continuation::ValueUse;
 use crate::steps::machine::Machine;
 use crate::steps::request::Request;
 use crate::strides::onward::Onward;
-use std::alloc::Global;
 use twe_base::{Ints, Memory};
 use twe_program::Prog;
 
@@ -43,24 +42,6 @@ pub(crate) fn serve<C: Cells>(
         }
     }
     Ok(Onward::Below)
-}
-
-/// Makes the one step that a continuation frame is for. The step comes to the end of the run, or the continuation frame on top
-/// comes next.
-pub(crate) fn step<'a, C: Cells>(
-    alloc: Global,
-    p: &'a Prog,
-    machine: &mut Machine<'a>,
-    cells: &mut C,
-    prints: &mut Ints,
-    work: Continuation<'a>,
-) -> Result<Onward, Memory>
-    requires { MayStride p.now C.known C.may_read C.may_write C.rule (continuation_of work) machine.old cells.old prints.old }
-    ensures { IfOk result (MovesOn p.now C.known C.may_read C.may_write C.rule (continuation_of work.entry)
-        machine.old cells.old prints.old machine.new cells.new prints.new) }
-{
-    let request = machine.act(alloc, p, work)?;
-    serve(machine, cells, prints, request)
 }
 
 /// Returns the latest value from the active body.

@@ -16,7 +16,7 @@ returns-in_ok-ending-in-Some-clause-segment g c =
 
 pub returns-in_ok-ending-in-Some-clause-room : goal.returns-in_ok-ending-in-Some-clause-room
 returns-in_ok-ending-in-Some-clause-room g c =
-    if_ok_map c.finish.result (λ stop done. so_has_room c.args.p.now (ran c.args.p.now c.args.frame.now c.run.new.prints c.run.new.machine.fuel) c.finish.new.frame stop c.run.new.machine.vars c.in_ok-ending-in-Some.ending done) c.finish.ensures
+    if_ok_map c.finish.result (λ stop done. so_has_room c.args.p.now (ran c.args.p.now c.args.frame.now c.run.new.prints c.run.new.machine.fuel) c.finish.new.frame stop c.run.new.machine.vars.active c.in_ok-ending-in-Some.ending done) c.finish.ensures
 
 pub run-requires : goal.run-requires
 run-requires g c =

@@ -4,13 +4,14 @@ use Rattle.twe_program.specs.Program.{Program}
 use Rattle.seg_exec.specs.declared.steps.request.Request.{Request}
 use Rattle.seg_exec.specs.declared.steps.request.Request.TheVariants.{Nothing, Read, Write, Print, End}
 use Rattle.seg_exec.specs.declared.steps.request.Ending.{Ending}
+use Rattle.seg_exec.specs.declared.steps.continuation.Continuation.{Continuation as Held}
 use Rattle.seg_exec.specs.declared.steps.machine.Machine.{Machine}
 use Rattle.seg_exec.specs.Access.{Access, Reads, Writes, Prints, Agrees, Follows, HasRead, HasWritten, MayAll, MaySame, Ways, after, printed, value_in}
 use Rattle.seg_exec.specs.Store.{Store}
 use Rattle.seg_exec.specs.inner.steps.Continuations.{Config, with_operand}
 use Rattle.seg_exec.specs.inner.steps.Steps.{step_of}
 use Rattle.seg_exec.specs.inner.steps.Runs.{Moment, Over, Comes, run, store_of}
-use Rattle.seg_exec.specs.inner.steps.Views.{config_of}
+use Rattle.seg_exec.specs.inner.steps.Views.{config_before, config_of, config_with}
 
 -- the evaluator over a list of cells after some accesses
 abbrev pub over : Config → List ℤ → List Access → Moment
@@ -25,6 +26,14 @@ pub record Standing (C : Type 0) : Type 0 where
 -- the same of a machine
 abbrev pub standing : {C : Type 0} → Machine → C → List ℤ → Standing C
 standing machine cells prints = record { config = config_of machine; cells = cells; prints = prints }
+
+-- the same with a frame that was taken from the machine
+abbrev pub standing_with : {C : Type 0} → Held → Machine → C → List ℤ → Standing C
+standing_with work machine cells prints = record { config = config_with work machine; cells = cells; prints = prints }
+
+-- the same of a machine whose active body has only its first variables, so many
+abbrev pub standing_before : {C : Type 0} → ℕ → Machine → C → List ℤ → Standing C
+standing_before count machine cells prints = record { config = config_before count machine; cells = cells; prints = prints }
 
 -- the implementation allows what a step requests
 abbrev pub MayRequest : {C : Type 0} → Ways C → C → Request → Type 0

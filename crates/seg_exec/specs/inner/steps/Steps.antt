@@ -18,8 +18,6 @@ use Rattle.seg_exec.specs.declared.steps.continuation.Goal.TheVariants as goals
 use Rattle.seg_exec.specs.declared.steps.request.Request.{Request}
 use Rattle.seg_exec.specs.declared.steps.request.Request.TheVariants as requests
 use Rattle.seg_exec.specs.declared.steps.request.Ending.TheVariants as endings
-use Rattle.seg_exec.specs.declared.steps.continuation.Recovered.{Recovered}
-use Rattle.seg_exec.specs.declared.steps.continuation.Recovered.TheVariants as recovers
 use Rattle.seg_exec.specs.Arithmetic.{number_of, is_true, operated, decided, negative, negation}
 use Rattle.seg_exec.specs.Cells.{cell_number, element_number, grid_element_number}
 use Rattle.seg_exec.specs.Meaning.{body_of, vars_at_start}
@@ -209,17 +207,23 @@ abbrev pub back_with : ℤ → List ℤ → Config → Config
 back_with value vars c = record c { operands = value ∷ c.operands; vars = vars; calls = c.calls - 1 }
 
 -- what unwinding recovers from a continuation frame: the variables of the caller, or the position of a block
-abbrev pub recovered_from : Continuation → Recovered
-recovered_from (Leave vars) = recovers.Caller vars
-recovered_from (Rest block at stmts) = recovers.Block (record { block = block; after = at })
-recovered_from _ = recovers.Nothing
+pub data Recovery : Type 0 where
+  ToCaller : (vars : List ℤ) → Recovery
+  OfBlock : (position : Position) → Recovery
+  NoRecovery : Recovery
+
+-- the same of this frame
+abbrev pub recovered_from : Continuation → Recovery
+recovered_from (Leave vars) = ToCaller vars
+recovered_from (Rest block at stmts) = OfBlock (record { block = block; after = at })
+recovered_from _ = NoRecovery
 
 -- one frame is dropped on the return from a body: the caller continues with the latest value, if the frame is a call's;
 -- otherwise the return goes on
-abbrev pub unwound_past : Recovered → Config → Step
-unwound_past (recovers.Caller vars) c = on (back_with (top c.operands) vars (without_operand c))
-unwound_past (recovers.Block position) c = on (to_do Unwind c)
-unwound_past recovers.Nothing c = on (to_do Unwind c)
+abbrev pub unwound_past : Recovery → Config → Step
+unwound_past (ToCaller vars) c = on (back_with (top c.operands) vars (without_operand c))
+unwound_past (OfBlock position) c = on (to_do Unwind c)
+unwound_past NoRecovery c = on (to_do Unwind c)
 
 -- the next step of a return: it drops the first frame of these; if there is none, the run ends with the latest value
 abbrev pub unwound : List Continuation → Config → Step
@@ -227,10 +231,10 @@ unwound [] c = (requests.End (endings.Returned (top c.operands)), without_operan
 unwound (next ∷ work) c = unwound_past (recovered_from next) (record c { work = work })
 
 -- all steps of a return from one frame on: a call ends the return, and any other frame is dropped before the others
-abbrev pub returned_past : Recovered → Config → Step → Step
-returned_past (recovers.Caller vars) c others = on (back_with (top c.operands) vars (without_operand c))
-returned_past (recovers.Block position) c others = others
-returned_past recovers.Nothing c others = others
+abbrev pub returned_past : Recovery → Config → Step → Step
+returned_past (ToCaller vars) c others = on (back_with (top c.operands) vars (without_operand c))
+returned_past (OfBlock position) c others = others
+returned_past NoRecovery c others = others
 
 -- all steps of a return at once
 abbrev pub returned : List Continuation → Config → Step
@@ -239,10 +243,10 @@ returned (next ∷ work) c = returned_past (recovered_from next) (record c { wor
 
 -- one frame is dropped on a suspension at a task operation: if it is a block, its position is kept. A method has no task
 -- operations; one would return 0 to the caller.
-abbrev pub suspended_past : Recovered → Operation → List Position → Config → Step
-suspended_past (recovers.Caller vars) operation positions c = on (back_with (pos 0) vars c)
-suspended_past (recovers.Block position) operation positions c = on (to_do (Suspend operation (position ∷ positions)) c)
-suspended_past recovers.Nothing operation positions c = on (to_do (Suspend operation positions) c)
+abbrev pub suspended_past : Recovery → Operation → List Position → Config → Step
+suspended_past (ToCaller vars) operation positions c = on (back_with (pos 0) vars c)
+suspended_past (OfBlock position) operation positions c = on (to_do (Suspend operation (position ∷ positions)) c)
+suspended_past NoRecovery operation positions c = on (to_do (Suspend operation positions) c)
 
 -- the next step of a suspension: it drops the first frame of these; if there is none, the run ends with the operation
 abbrev pub suspended : Operation → List Position → List Continuation → Config → Step

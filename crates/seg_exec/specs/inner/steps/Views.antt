@@ -1,14 +1,18 @@
 -- The evaluator's continuation and state as the specification sees them.
-use Rattle.std.specs.Prelude.{List, [], ◌∷◌, drop}
+use Rattle.std.specs.Prelude.{ℕ, ℤ, List, [], ◌∷◌, drop, take}
 use Rattle.twe_program.specs.Expression.{arguments_of}
 use Rattle.twe_program.specs.Statement.{statements_of}
 use Rattle.twe_program.specs.inner.StatementView.{arms_of}
 use Rattle.seg_exec.specs.declared.steps.continuation.Continuation.{Continuation as Held}
 use Rattle.seg_exec.specs.declared.steps.continuation.Continuation.TheVariants as held
+use Rattle.seg_exec.specs.declared.steps.continuation.Recovered.{Recovered}
+use Rattle.seg_exec.specs.declared.steps.continuation.Recovered.TheVariants as recovers
 use Rattle.seg_exec.specs.declared.steps.continuation.ValueUse.{ValueUse}
 use Rattle.seg_exec.specs.declared.steps.continuation.ValueUse.TheVariants as uses
 use Rattle.seg_exec.specs.declared.steps.machine.Machine.{Machine}
-use Rattle.seg_exec.specs.inner.steps.Continuations.{Continuation, Evaluate, Execute, Rest, Choose, Chosen, Turn, Gather, Take, Negate, Invert, Right, Apply, ReadElement, ReadGridElement, GiveVar, GiveCell, GiveElement, GiveGridElement, PrintValue, Discard, Unwind, Suspend, Leave, Config}
+use Rattle.seg_exec.specs.inner.steps.Continuations.{Continuation, Evaluate, Execute, Rest, Choose, Chosen, Turn, Gather, Take, Negate, Invert, Right, Apply, ReadElement, ReadGridElement, GiveVar, GiveCell, GiveElement, GiveGridElement, PrintValue, Discard, Unwind, Suspend, Leave, Config, to_do}
+use Rattle.seg_exec.specs.inner.steps.Bodies.{before_last, last_of}
+use Rattle.seg_exec.specs.inner.steps.Steps.{Recovery, ToCaller, OfBlock, NoRecovery}
 
 -- the continuation frame that uses a value
 abbrev pub use_of : ValueUse → Continuation
@@ -28,23 +32,58 @@ use_of (uses.PrintValue place) = PrintValue place
 use_of uses.Discard = Discard
 use_of uses.Unwind = Unwind
 
--- the continuation frame that a frame of the evaluator stands for
-abbrev pub continuation_of : Held → Continuation
-continuation_of (held.Evaluate e) = Evaluate e.now
-continuation_of (held.Execute s) = Execute s.now
-continuation_of (held.Rest block at stmts) = Rest block at (statements_of (drop at stmts.now))
-continuation_of (held.Choose block arms last) = Choose block (arms_of (drop block arms.now) last.now)
-continuation_of (held.UseValue then) = use_of then
-continuation_of (held.Gather g) = Gather g.value.taken (arguments_of g.value.args.now) g.value.goal
-continuation_of (held.Take g) = Take g.value.taken (arguments_of g.value.args.now) g.value.goal
-continuation_of (held.Suspend s) = Suspend s.operation s.positions
-continuation_of (held.Leave vars) = Leave vars
+-- the continuation frame that a frame of the evaluator stands for, over the variables of the callers
+abbrev pub continuation_of : List ℤ → Held → Continuation
+continuation_of callers (held.Evaluate e) = Evaluate e.now
+continuation_of callers (held.Execute s) = Execute s.now
+continuation_of callers (held.Rest block at stmts) = Rest block at (statements_of (drop at stmts.now))
+continuation_of callers (held.Choose block arms last) = Choose block (arms_of (drop block arms.now) last.now)
+continuation_of callers (held.UseValue then) = use_of then
+continuation_of callers (held.Gather g) = Gather g.value.taken (arguments_of g.value.args.now) g.value.goal
+continuation_of callers (held.Take g) = Take g.value.taken (arguments_of g.value.args.now) g.value.goal
+continuation_of callers (held.Suspend s) = Suspend s.operation s.positions
+continuation_of callers (held.Leave count) = Leave (last_of count callers)
 
--- the same for all frames
-abbrev pub continuations_of : List Held → List Continuation
-continuations_of [] = []
-continuations_of (work ∷ others) = continuation_of work ∷ continuations_of others
+-- the variables of the callers that the frames below a frame return to
+abbrev pub callers_below : Held → List ℤ → List ℤ
+callers_below (held.Leave count) callers = before_last count callers
+callers_below _ callers = callers
+
+-- all frames
+abbrev pub continuations_of : List ℤ → List Held → List Continuation
+continuations_of callers [] = []
+continuations_of callers (work ∷ others) = continuation_of callers work ∷ continuations_of (callers_below work callers) others
 
 -- the state of a machine as a configuration
 abbrev pub config_of : Machine → Config
-config_of m = record { work = continuations_of m.work; operands = m.operands; vars = m.vars; fuel = m.fuel; calls = m.calls }
+config_of m = record {
+  work = continuations_of m.vars.callers m.work;
+  operands = m.operands;
+  vars = m.vars.active;
+  fuel = m.fuel;
+  calls = m.calls;
+}
+
+-- the same below a frame that was on top
+abbrev pub config_under : Held → Machine → Config
+config_under work m = record (config_of m) { work = continuations_of (callers_below work m.vars.callers) m.work }
+
+-- the same with the frame
+abbrev pub config_with : Held → Machine → Config
+config_with work m = to_do (continuation_of m.vars.callers work) (config_under work m)
+
+-- the state of a machine whose active body has only its first variables, so many
+abbrev pub config_before : ℕ → Machine → Config
+config_before count m = record (config_of m) { vars = take count m.vars.active }
+
+-- the variables of the callers below a frame from which this is recovered
+abbrev pub callers_past : Recovered → List ℤ → List ℤ
+callers_past (recovers.Caller count) callers = before_last count callers
+callers_past (recovers.Block position) callers = callers
+callers_past recovers.Nothing callers = callers
+
+-- what unwinding recovers from a frame, over the variables of the callers
+abbrev pub recovery_of : List ℤ → Recovered → Recovery
+recovery_of callers (recovers.Caller count) = ToCaller (last_of count callers)
+recovery_of callers (recovers.Block position) = OfBlock position
+recovery_of callers recovers.Nothing = NoRecovery

@@ -1,17 +1,19 @@
 -- Several steps of the evaluator, up to where it goes on.
 use Rattle.std.specs.Prelude.{◌≡◌, ℕ, ℤ, List, drop, Option, None, Some}
 use Rattle.twe_program.specs.Program.{Program}
+use Rattle.twe_program.specs.Expression.{Arguments}
 use Rattle.twe_program.specs.Statement.{statements_of}
 use Rattle.seg_exec.specs.declared.steps.machine.Machine.{Machine}
 use Rattle.seg_exec.specs.declared.steps.request.Ending.{Ending}
 use Rattle.seg_exec.specs.declared.steps.request.Request.{Request}
 use Rattle.seg_exec.specs.declared.steps.request.Request.TheVariants as requests
+use Rattle.seg_exec.specs.declared.steps.continuation.Goal.{Goal}
 use Rattle.seg_exec.specs.declared.steps.continuation.OpenBlock.{OpenBlock}
 use Rattle.seg_exec.specs.declared.strides.onward.Onward.{Onward}
 use Rattle.seg_exec.specs.declared.strides.onward.Onward.TheVariants.{Below, Enter, End}
 use Rattle.seg_exec.specs.Access.{Access, Ways, ways_of}
-use Rattle.seg_exec.specs.inner.steps.Continuations.{Config, Continuation, Rest, to_do}
-use Rattle.seg_exec.specs.inner.steps.Reached.{Served, Standing, standing}
+use Rattle.seg_exec.specs.inner.steps.Continuations.{Config, Continuation, Gather, Rest, to_do}
+use Rattle.seg_exec.specs.inner.steps.Reached.{Served, Standing, standing, standing_before}
 use Rattle.seg_exec.specs.inner.steps.Steps.{Step, on}
 use Rattle.seg_exec.specs.inner.strides.Strides.{Ends, Goes, doing}
 
@@ -69,3 +71,9 @@ step_on next c = step_to next.block next.ending c
 -- what a step requests is served, and the run has ended if that was the end; no block comes next
 abbrev pub Serves : {C : Type 0} → Ways C → Request → Standing C → Course → Standing C → Type 0
 Serves ways request old next new = Served ways request old next.ending new × (next.block ≡ None)
+
+-- arguments are to be evaluated; those before them have values, which are the variables of the active body after its first
+-- ones, so many
+abbrev pub gathering_from : {C : Type 0} → ℕ → Arguments → Goal → Machine → C → List ℤ → Standing C
+gathering_from count args goal machine cells prints =
+    doing (Gather (drop count machine.vars.active) args goal) (standing_before count machine cells prints)

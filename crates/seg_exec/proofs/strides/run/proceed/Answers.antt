@@ -7,6 +7,7 @@ use Rattle.seg_exec.proofs.strides.run.proceed.Goals as goal
 pub returns-in-None : goal.returns-in-None
 returns-in-None g c =
     let old = config_of c.args.machine.now in
-    let new = record old { work = continuations_of c.pop.new.self } in
+    let callers = c.args.machine.now.vars.callers in
+    let new = record old { work = continuations_of callers c.pop.new.self } in
     returns_nothing c.args.p.now (ways_of g.C.Cells.known g.C.Cells.may_read g.C.Cells.may_write g.C.Cells.rule) old new c.args.cells.now c.args.prints.now
-    (ap continuations_of c.in-None.ensures.0) (ap (λ work. record old { work = continuations_of work }) c.in-None.ensures.1)
+    (ap (continuations_of callers) c.in-None.ensures.0) (ap (λ work. record old { work = continuations_of callers work }) c.in-None.ensures.1)

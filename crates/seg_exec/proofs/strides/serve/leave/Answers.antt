@@ -1,6 +1,6 @@
 use Rattle.seg_exec.specs.Access.{ways_of}
 use Rattle.seg_exec.specs.inner.steps.Reached.{standing}
-use Rattle.seg_exec.specs.inner.steps.Views.{config_of, continuations_of}
+use Rattle.seg_exec.specs.inner.steps.Views.{config_of}
 use Rattle.seg_exec.specs.inner.steps.Continuations.{Unwind}
 use Rattle.seg_exec.specs.inner.strides.Strides.{doing}
 use Rattle.seg_exec.specs.inner.strides.Moving.{course}
@@ -11,7 +11,7 @@ use Rattle.seg_exec.proofs.strides.serve.leave.Goals as goal
 
 pub serve-requires : goal.serve-requires
 serve-requires g c =
-    may_return c.args.p.now (ways_of g.C.Cells.known g.C.Cells.may_read g.C.Cells.may_write g.C.Cells.rule) (continuations_of c.args.machine.now.work) (config_of c.args.machine.now) (config_of c.give_back.new.self) c.args.cells.now
+    may_return c.args.p.now (ways_of g.C.Cells.known g.C.Cells.may_read g.C.Cells.may_write g.C.Cells.rule) (config_of c.args.machine.now).work (config_of c.args.machine.now) (config_of c.give_back.new.self) c.args.cells.now
     c.in_ok-request.request c.in_ok-request.ensures
 
 pub returns : goal.returns
@@ -20,5 +20,5 @@ returns g c =
     let before = doing Unwind (standing c.args.machine.now c.args.cells.now c.args.prints.now) in
     let after = standing c.serve.new.machine c.serve.new.cells c.serve.new.prints in
     if_ok_map c.serve.result (λ onward served. moves_carried c.args.p.now ways before after (course onward c.serve.new.machine) served.1
-    (carries_return c.args.p.now ways (continuations_of c.args.machine.now.work) (config_of c.args.machine.now) (config_of c.give_back.new.self) c.args.cells.now c.args.prints.now
+    (carries_return c.args.p.now ways (config_of c.args.machine.now).work (config_of c.args.machine.now) (config_of c.give_back.new.self) c.args.cells.now c.args.prints.now
     c.in_ok-request.request (course onward c.serve.new.machine).ending after c.in_ok-request.ensures served.0)) c.serve.ensures

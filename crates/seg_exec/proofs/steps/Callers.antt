@@ -1,0 +1,48 @@
+-- The variables of the active body and of its callers in the state of a machine.
+use Rattle.std.proofs.Common.{◌≡◌, ℕ, ℤ, List, ◌∷◌, take, refl, ap, sym, ◌∙◌}
+use Rattle.seg_exec.specs.declared.frame.Position.{Position}
+use Rattle.seg_exec.specs.declared.operation.Operation.{Operation}
+use Rattle.seg_exec.specs.declared.steps.continuation.Continuation.{Continuation as Held}
+use Rattle.seg_exec.specs.declared.steps.continuation.Recovered.{Recovered}
+use Rattle.seg_exec.specs.declared.steps.machine.Machine.{Machine}
+use Rattle.seg_exec.specs.inner.steps.Bodies.{Bodies, with_active}
+use Rattle.seg_exec.specs.inner.steps.Continuations.{Config, Continuation}
+use Rattle.seg_exec.specs.inner.steps.Steps.{Recovery, recovered_from, returned, returned_past, suspended, suspended_past, unwound, unwound_past}
+use Rattle.seg_exec.specs.inner.steps.Views.{callers_below, callers_past, config_before, config_of, continuation_of, continuations_of, recovery_of}
+
+-- what is recovered from the frame on top of a machine
+module _ (m : Machine) (work : Held) (rest : List Held) (r : Recovered) (top : m.work ≡ work ∷ rest)
+    (recovery : (callers : List ℤ) → recovery_of callers r ≡ recovered_from (continuation_of callers work))
+    (below : (callers : List ℤ) → callers_past r callers ≡ callers_below work callers) where
+  -- the state below that frame
+  abbrev pub config_past : Config
+  config_past = record (config_of m) { work = continuations_of (callers_past r m.vars.callers) rest }
+
+  by_parts : {A : Type 0} (step : Recovery → List Continuation → A) (whole : List Continuation → A)
+      → ((next : Continuation) (others : List Continuation) → whole (next ∷ others) ≡ step (recovered_from next) others)
+      → whole (config_of m).work ≡ step (recovery_of m.vars.callers r) config_past.work
+  by_parts step whole is =
+      ap (λ (w : List Held). whole (continuations_of m.vars.callers w)) top
+      ∙ is (continuation_of m.vars.callers work) (continuations_of (callers_below work m.vars.callers) rest)
+      ∙ ap (λ (x : Recovery). step x (continuations_of (callers_below work m.vars.callers) rest)) (sym (recovery m.vars.callers))
+      ∙ ap (λ (cs : List ℤ). step (recovery_of m.vars.callers r) (continuations_of cs rest)) (sym (below m.vars.callers))
+
+  pub unwound_as : unwound (config_of m).work (config_of m) ≡ unwound_past (recovery_of m.vars.callers r) config_past
+  unwound_as = by_parts (λ x others. unwound_past x (record (config_of m) { work = others })) (λ w. unwound w (config_of m)) (λ next others. refl)
+
+  pub suspended_as : (operation : Operation) (positions : List Position)
+      → suspended operation positions (config_of m).work (config_of m) ≡ suspended_past (recovery_of m.vars.callers r) operation positions config_past
+  suspended_as operation positions =
+      by_parts (λ x others. suspended_past x operation positions (record (config_of m) { work = others })) (λ w. suspended operation positions w (config_of m)) (λ next others. refl)
+
+  pub returned_as : returned (config_of m).work (config_of m) ≡ returned_past (recovery_of m.vars.callers r) config_past (returned config_past.work (config_of m))
+  returned_as =
+      by_parts (λ x others. returned_past x (record (config_of m) { work = others }) (returned others (config_of m))) (λ w. returned w (config_of m)) (λ next others. refl)
+
+-- the active body has other variables
+pub with_others : (m : Machine) (b : Bodies) → b.callers ≡ m.vars.callers → config_of (record m { vars = b }) ≡ record (config_of m) { vars = b.active }
+with_others m b same = ap (λ (callers : List ℤ). record (config_of m) { work = continuations_of callers m.work; vars = b.active }) same
+
+-- the active body has only its first variables
+pub with_first : (m : Machine) (count : ℕ) (b : Bodies) → b ≡ with_active (take count m.vars.active) m.vars → config_of (record m { vars = b }) ≡ config_before count m
+with_first m count b is = ap (λ (x : Bodies). config_of (record m { vars = x })) is
