@@ -41,7 +41,8 @@ abbrev mutual
       Reaches end first to trail later ⊎ ((between : Path) × Goes first trail between × ReachesAll end others to between later)
 
   pub ReachesOne : ℕ → Arms → ℕ → Path → Path → Type 0
-  ReachesOne end (arm condition body others) to trail later = ReachesAll end body to trail later ⊎ ReachesOne end others to trail later
+  ReachesOne end (arm condition body others) to trail later =
+      ReachesAll end body to trail later ⊎ ReachesOne end others to trail later
   ReachesOne end (otherwise body) to trail later = ReachesAll end body to trail later
   ReachesOne end no_else to trail later = ⊥
 

@@ -17,11 +17,11 @@ use Rattle.twe_advise.specs.declared.paces.Pace.{Pace}
 use Rattle.twe_advise.specs.declared.words.Form.{Form}
 use Rattle.twe_advise.specs.declared.words.Form.TheVariants.{Tables, Json}
 
--- What is written of a run with this work, this span and this held span, with these holds, in which these pairs held most, whose paced
--- timetables and whose tasks took this, which has made these tasks, whose entries begin at these times at the earliest, and the
--- entries of whose heaviest chain follow one another so. The text of the program has these declarations.
-abbrev pub advice_text : Form → Program → List Item → ℕ → ℕ → ℕ → List Hold → List HeldPair → List Pace → List TaskWork
-    → List TaskRow → List ℕ → List ChainStep → List ℕ
+-- What is written of a run with this work, this span and this held span, with these holds, in which these pairs held most,
+-- whose paced timetables and whose tasks took this, which has made these tasks, whose entries begin at these times at the
+-- earliest, and the entries of whose heaviest chain follow one another so. The text of the program has these declarations.
+abbrev pub advice_text : Form → Program → List Item → ℕ → ℕ → ℕ → List Hold → List HeldPair → List Pace
+    → List TaskWork → List TaskRow → List ℕ → List ChainStep → List ℕ
 advice_text Tables p items work span held holds pairs paces works tasks starts steps =
     (tables_text p.tasks work span held holds paces works tasks ++ holds_text p items pairs) ++ chain_text p tasks starts steps
 advice_text Json p items work span held holds pairs paces works tasks starts steps =

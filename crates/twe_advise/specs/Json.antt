@@ -63,7 +63,9 @@ abbrev pub json_tasks : List TaskWork → List TaskRow → List Hold → ℕ →
 json_tasks works rows holds number decls = rows_by (json_task_of works rows holds) number decls
 
 -- the object, with these objects of the pairs that held most and of the chain
-abbrev pub json_text : List Decl → ℕ → ℕ → ℕ → List Hold → List Pace → List TaskWork → List TaskRow → List ℕ → List ℕ → List ℕ
+abbrev pub json_text : List Decl → ℕ → ℕ → ℕ → List Hold → List Pace → List TaskWork → List TaskRow → List ℕ → List ℕ
+    → List ℕ
 json_text decls work span held holds paces works rows pairs chain =
     ((((((((json_head work span ++ json_held span held) ++ json_times work span paces) ++ codes "],\"tasks\":[")
-    ++ json_tasks works rows holds 0 decls) ++ codes "],\"holds\":[") ++ pairs) ++ codes "],\"chain\":[") ++ chain) ++ codes "]}\n"
+    ++ json_tasks works rows holds 0 decls) ++ codes "],\"holds\":[") ++ pairs) ++ codes "],\"chain\":[") ++ chain)
+    ++ codes "]}\n"

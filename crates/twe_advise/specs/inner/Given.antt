@@ -13,8 +13,8 @@ use Rattle.twe_advise.specs.Forms.{advice_text}
 use Rattle.twe_advise.specs.Paces.{ArePaces, worker_counts}
 use Rattle.twe_advise.specs.declared.words.Form.{Form}
 
--- the answer has this advice in this form, with the times of the paced timetables, the held span, the holds and the pairs that held
--- most
+-- the answer has this advice in this form, with the times of the paced timetables, the held span, the holds and the pairs
+-- that held most
 abbrev pub AdvisedBy : Form → List Item → Program → Advice → HeldProfile → List HeldPair → Answer → Type 0
 AdvisedBy form items p advice held pairs answer =
     (paces : List Pace) × ArePaces advice.profile.starts advice.profile.ends worker_counts paces
