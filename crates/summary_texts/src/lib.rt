@@ -1,6 +1,6 @@
 //! Summaries as clauses of a text: what is only read and what is written, the paths of each in one order.
 //!
-//! A text can be given these summaries in the place of those of its methods, each where a text can have it; it is read again then.
+//! A text can be given these summaries in the place of those of its methods, each where a text can have it, and is read again.
 //! `summary_writing` keeps the bytes around. That the text keeps its meaning is not proved of these bytes: the program reads what
 //! it has written, and compares the tree with that of the text with the new clauses. What follows then is the laws.
 #![tactic(auto)]
