@@ -15,16 +15,16 @@ is_variable number (Var k) = k == number
 is_variable number AnyIndex = false
 
 -- the variable is one of the elements of the path, before its star or after it
-abbrev pub stands_in : ℕ → WrittenPath → Bool
-stands_in number p = list_any (is_variable number) p.elems || list_any (is_variable number) p.tail
+abbrev pub has_variable : ℕ → WrittenPath → Bool
+has_variable number p = list_any (is_variable number) p.elems || list_any (is_variable number) p.tail
 
 -- a parameter and its value
-abbrev pub with_value : Valuation → ℕ → ParamValue
-with_value v number = record { param = number; value = v number }
+abbrev pub param_with_value : Valuation → ℕ → ParamValue
+param_with_value v number = record { param = number; value = v number }
 
 -- The parameters that stand in one of the paths, in their order, each with its value. The parameters are the first variables, as
 -- many as are shared; a local has no value here.
 abbrev pub values_in : ℕ → WrittenPath → WrittenPath → Valuation → List ParamValue
 values_in shared p q v =
-    filter (λ (given : ParamValue). stands_in given.param p || stands_in given.param q)
-    (map (with_value v) (range_with_len 0 shared))
+    filter (λ (given : ParamValue). has_variable given.param p || has_variable given.param q)
+    (map (param_with_value v) (range_with_len 0 shared))

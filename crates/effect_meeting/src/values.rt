@@ -2,7 +2,7 @@
 ghost use Rattle.std.specs.Prelude.{◌≡◌, ◌∷◌, ◌++◌, [], ◌||◌, IfOk, OnOk, if◌then◌else◌};
 ghost use Rattle.std.specs.List.{list_any};
 ghost use Rattle.task_matrix.specs.Solutions.{first_by};
-ghost use Rattle.effect_meeting.specs.Values.{is_variable, stands_in, values_in};
+ghost use Rattle.effect_meeting.specs.Values.{is_variable, has_variable, values_in};
 
 use region_paths::{Elem, Path};
 use std::alloc::Global;
@@ -41,17 +41,17 @@ fn is_among(number: u32, elems: &[Elem]) -> bool
 }
 
 /// Whether the variable is one of the elements of the path, before its star or after it.
-fn stands_in(number: u32, path: &Path) -> bool
-    ensures { result ≡ stands_in number path.now }
+fn has_variable(number: u32, path: &Path) -> bool
+    ensures { result ≡ has_variable number path.now }
 {
     is_among(number, path.elems().as_slice()) || is_among(number, path.tail().as_slice())
 }
 
 /// Whether the variable stands in one of the paths.
-fn stands_in_either(number: u32, first: &Path, second: &Path) -> bool
-    ensures { result ≡ (stands_in number first.now || stands_in number second.now) }
+fn either_has_variable(number: u32, first: &Path, second: &Path) -> bool
+    ensures { result ≡ (has_variable number first.now || has_variable number second.now) }
 {
-    stands_in(number, first) || stands_in(number, second)
+    has_variable(number, first) || has_variable(number, second)
 }
 
 /// Appends a parameter with its value, if it is to be told.
@@ -73,7 +73,7 @@ pub(crate) fn values_by(
 {
     let mut values = Values::new(alloc);
     for param in 0..shared {
-        let told = stands_in_either(param, first, second);
+        let told = either_has_variable(param, first, second);
         let value = solved_value(steps, Term::First(param));
         push_if(&mut values, told, ParamValue { param, value })?;
     }
