@@ -1,6 +1,6 @@
 -- The elements of a path at the positions of a concrete path stand for it exactly where the path does.
 use Rattle.std.proofs.Common.{◌≡◌, ℕ, zero, suc, ◌+◌, ◌-◌, ◌≤◌, max, Bool, true, false, IsTrue, List, [], ◌∷◌, ◌++◌, length, map, take, drop, reverse, replicate, refl, sym, ap, ap₂, ◌∙◌, subst, arith, eqb-true, eq-eqb, length-take, length-drop, append-nil}
-use Rattle.std.specs.Prelude.{◌&&◌, ◌==◌, Option, None, Some, nat_le}
+use Rattle.std.specs.Prelude.{◌&&◌, Option, None, Some}
 use Rattle.std.proofs.lemmas.Bool.{false≢true, and_parts, and_from, leb-true, le-leb}
 use Rattle.std.proofs.lemmas.List.{length-map, map-append, length-reverse, length-replicate, length-append}
 use Rattle.region_paths.specs.declared.elements.Elem.{Elem}

@@ -1,5 +1,5 @@
 -- What is found of columns says where the paths meet.
-use Rattle.std.proofs.Common.{◌≡◌, ◌↔◌, ◌⊎◌, ℕ, zero, suc, ◌+◌, ◌-◌, Bool, true, false, IsTrue, List, [], ◌∷◌, ◌++◌, length, map, replicate, inl, inr, refl, sym, ap, ◌∙◌, subst, arith, eqb-true, length-append}
+use Rattle.std.proofs.Common.{◌≡◌, ◌↔◌, ℕ, zero, suc, ◌+◌, ◌-◌, Bool, true, false, IsTrue, List, ◌++◌, length, map, replicate, refl, sym, ap, ◌∙◌, subst, arith, eqb-true, length-append}
 use Rattle.std.specs.Prelude.{Option, None, Some, IfNone}
 use Rattle.std.specs.List.{flat_map}
 use Rattle.std.proofs.lemmas.Bool.{false≢true, leb-true}
@@ -12,9 +12,11 @@ use Rattle.task_matrix.specs.declared.equality.Equality.{Equality}
 use Rattle.task_matrix.specs.Equalities.{equalities_hold}
 use Rattle.task_matrix.specs.Solutions.{AreSolvedBy, NeverHold, first_by, second_by}
 use Rattle.effect_meeting.specs.declared.column.Column.{Column}
-use Rattle.effect_meeting.specs.Meeting.{AgreeBelow, MeetAt, NeverMeet, as_written}
+use Rattle.effect_meeting.specs.declared.values.ParamValue.{ParamValue}
+use Rattle.effect_meeting.specs.Values.{values_in}
+use Rattle.effect_meeting.specs.Meeting.{AgreeBelow, NeverMeet}
 use Rattle.effect_meeting.specs.inner.Aligned.{all_stand, at_ends, at_length, common_length, has_length, one_under}
-use Rattle.effect_meeting.specs.inner.Columns.{AreForcedAlong, AreMetAlong, NeverMeetAlong, all_plain, column_equalities, columns, solved_by}
+use Rattle.effect_meeting.specs.inner.Columns.{IsForcedAlong, IsMetAlong, NeverMeetAlong, all_plain, column_equalities, columns, solved_by}
 use Rattle.effect_meeting.proofs.Aligning.{aligned-stands, all_stand-length, common-tried, none-stands, stands-length}
 use Rattle.effect_meeting.proofs.Forcing.{columns-near}
 use Rattle.effect_meeting.proofs.Solving.{columns-hold, columns-stand, solid_path, written-path}
@@ -72,7 +74,8 @@ module _ (shared : ℕ) (p q : WrittenPath) (zs : List (Option Elem)) where
       ))
 
   pub met-along : (es steps : List Equality) → PathIsWellFormed p → PathIsWellFormed q → has_length p (length zs) ≡ true → has_length q (length zs) ≡ true
-      → all_plain zs ≡ true → AreNeeded es → AreSolvedBy es steps → AreMetAlong shared p q zs (map (solved_by steps) cols)
+      → all_plain zs ≡ true → AreNeeded es → AreSolvedBy es steps
+      → IsMetAlong shared p q zs (record { elems = map (solved_by steps) cols; values = values_in shared p q (first_by steps) })
   met-along es steps p_formed q_formed p_fits q_fits plain needed solved =
       let v = first_by steps in
       let w = second_by steps in
@@ -82,19 +85,22 @@ module _ (shared : ℕ) (p q : WrittenPath) (zs : List (Option Elem)) where
       (at_length-long (length zs) q q_formed q_fits) both.1 in (
         c,
         sym (written-path v w cols),
-        record {
-          first = v;
-          second = w;
-          agree = both.0;
-          in_first = stand-out v p c p_formed lines.third p_fits lines.first;
-          in_second = stand-out w q c q_formed lines.third q_fits lines.second;
-        },
+        (
+          record {
+            first = v;
+            second = w;
+            agree = both.0;
+            in_first = stand-out v p c p_formed lines.third p_fits lines.first;
+            in_second = stand-out w q c q_formed lines.third q_fits lines.second;
+          },
+          refl,
+        ),
         lines.third,
       )
 
   pub forced-along : (es steps : List Equality) → PathIsWellFormed p → PathIsWellFormed q → all_plain zs ≡ true → AreNeeded es → AreSolvedBy es steps
-      → AreForcedAlong shared p q zs (map (solved_by steps) cols)
-  forced-along es steps p_formed q_formed plain needed solved c met third =
+      → (values : List ParamValue) → IsForcedAlong shared p q zs (record { elems = map (solved_by steps) cols; values = values })
+  forced-along es steps p_formed q_formed plain needed solved values c met third =
       let v = met.first in
       let w = met.second in
       let firsts = stand-in v p c p_formed third met.in_first in

@@ -1,7 +1,6 @@
 -- The line of a declaration stands for a concrete path exactly where the declaration has a cell there, but for the bounds.
-use Rattle.std.proofs.Common.{◌≡◌, ℕ, ◌+◌, ◌<◌, zero, suc, ℤ, pos, negsuc, Bool, true, false, IsTrue, List, [], ◌∷◌, ◌++◌, length, map, take, drop, refl, sym, ap, ◌∙◌, subst, inl, inr, arith, take-append-drop}
-use Rattle.std.specs.Prelude.{◌&&◌, ◌||◌, Option, None, Some, IfNone, IfSome, nat_lt, zip}
-use Rattle.std.specs.Ordering.{int_eq}
+use Rattle.std.proofs.Common.{◌≡◌, ℕ, ◌<◌, zero, suc, ℤ, pos, negsuc, Bool, true, false, List, [], ◌∷◌, ◌++◌, length, map, take, drop, refl, sym, ap, ◌∙◌, subst, inl, inr, arith, take-append-drop}
+use Rattle.std.specs.Prelude.{◌&&◌, Option, Some, zip}
 use Rattle.std.specs.List.{list_all}
 use Rattle.std.proofs.lemmas.Bool.{false≢true, and_parts, and_from, or_cases, ltb-true, lt-ltb}
 use Rattle.std.proofs.lemmas.Bool.Decides.{Decides-int_eq}
@@ -11,11 +10,12 @@ use Rattle.region_paths.specs.declared.elements.Elem.TheVariants.{Name, Index, V
 use Rattle.region_paths.specs.Written.{WrittenPath}
 use Rattle.region_paths.specs.Concrete.{ConcreteElem, ConcretePath, each_stands, elem_stands, number, region}
 use Rattle.region_paths.proofs.Standing.{each_stands-length}
-use Rattle.effect_meeting.specs.Meeting.{MeetAt, as_written}
+use Rattle.effect_meeting.specs.declared.met.Met.{Met}
+use Rattle.effect_meeting.specs.Meeting.{IsMetFor, as_written}
 use Rattle.effect_meeting.specs.Cells.{IsMetWithin, indexes_below, is_index_below, stands_below}
-use Rattle.effect_meeting.specs.inner.Aligned.{all_stand, one_stands}
-use Rattle.effect_meeting.specs.inner.CellLines.{IsNeverMetWithin, cell_line, is_written_below}
-use Rattle.effect_meeting.specs.inner.Columns.{AreForcedAlong, AreMetAlong, NeverMeetAlong, all_near, all_plain, is_near, is_plain}
+use Rattle.effect_meeting.specs.inner.Aligned.{all_stand}
+use Rattle.effect_meeting.specs.inner.CellLines.{IsMetAfter, IsNeverMetWithin, cell_line, is_written_below}
+use Rattle.effect_meeting.specs.inner.Columns.{IsForcedAlong, IsMetAlong, NeverMeetAlong, all_near, all_plain, is_near, is_plain}
 use Rattle.effect_meeting.proofs.Aligning.{all_stand-append, some-stand}
 
 -- any index for each bound
@@ -132,30 +132,36 @@ module _ (shared : ℕ) (p q : WrittenPath) (elems : List Elem) (bounds : List �
   pub never-line : NeverMeetAlong shared p q (cell_line elems bounds) → IsNeverMetWithin shared p q elems bounds
   never-line never indexes m = never (m.declared ++ m.numbers) m.meet (met-line indexes m)
 
-  pub never-below : (es : List Elem) → AreForcedAlong shared p q (cell_line elems bounds) es → written_below bounds (drop (length elems) es) ≡ false
-      → IsNeverMetWithin shared p q elems bounds
-  never-below es forced outside indexes m =
+  pub never-below : (met : Met) → IsForcedAlong shared p q (cell_line elems bounds) met
+      → written_below bounds (drop (length elems) met.elems) ≡ false → IsNeverMetWithin shared p q elems bounds
+  never-below met forced outside indexes m =
+      let es = met.elems in
       let near = forced (m.declared ++ m.numbers) m.meet (met-line indexes m) in
       let long : length m.declared ≡ length elems = sym (each_stands-length elems m.declared m.lies) in
       let last : all_near (drop (length elems) es) m.numbers ≡ true =
       subst (λ (n : ℕ). all_near (drop n es) m.numbers ≡ true) long (near-drop es m.declared m.numbers near) in
       false≢true (sym outside ∙ near-below bounds (drop (length elems) es) m.numbers last m.in_range)
 
-  pub met-within : (es : List Elem) → AreMetAlong shared p q (cell_line elems bounds) es → written_below bounds (drop (length elems) es) ≡ true
-      → IsMetWithin shared p q elems bounds (drop (length elems) es)
-  met-within es met below =
-      let c = met.0 in
+  pub met-within : (met : Met) → IsMetAlong shared p q (cell_line elems bounds) met → written_below bounds (drop (length elems) met.elems) ≡ true
+      → IsMetAfter shared p q elems bounds (record { elems = drop (length elems) met.elems; values = met.values })
+  met-within met along below =
+      let c = along.0 in
       let n = length elems in
-      let written : drop n es ≡ map as_written (drop n c) = ap (drop n) met.1 ∙ drop-map n c in
+      let written : drop n met.elems ≡ map as_written (drop n c) = ap (drop n) along.1 ∙ drop-map n c in
       let split : all_stand (map Some elems) (take n c) && all_stand (any_for bounds) (drop n c) ≡ true =
       ap (λ (k : ℕ). all_stand (map Some elems) (take k c) && all_stand (any_for bounds) (drop k c)) (sym (length-map elems Some))
-      ∙ sym (all_stand-append (map Some elems) (any_for bounds) c) ∙ met.3 in
+      ∙ sym (all_stand-append (map Some elems) (any_for bounds) c) ∙ along.3 in
       let parts = and_parts (all_stand (map Some elems) (take n c)) (all_stand (any_for bounds) (drop n c)) split in
+      let split_path : IsMetFor shared p q (take n c ++ drop n c) met.values =
+      subst (λ (d : ConcretePath). IsMetFor shared p q d met.values) (sym (take-append-drop n c)) along.2 in
       record {
-        declared = take n c;
-        numbers = drop n c;
-        written = written;
-        lies = sym (some-stand elems (take n c)) ∙ parts.0;
-        in_range = below-from bounds (drop n c) parts.1 (ap (written_below bounds) (sym written) ∙ below);
-        meet = subst (MeetAt shared p q) (sym (take-append-drop n c)) met.2;
+        here = record {
+          declared = take n c;
+          numbers = drop n c;
+          written = written;
+          lies = sym (some-stand elems (take n c)) ∙ parts.0;
+          in_range = below-from bounds (drop n c) parts.1 (ap (written_below bounds) (sym written) ∙ below);
+          meet = split_path.0;
+        };
+        told = split_path.1;
       }

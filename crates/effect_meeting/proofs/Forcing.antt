@@ -1,7 +1,6 @@
 -- What steps make of a column stands there wherever its equalities hold, but for an index 0.
-use Rattle.std.proofs.Common.{◌≡◌, ℤ, pos, Bool, true, false, IsTrue, List, [], ◌∷◌, map, refl, sym, ap, ◌∙◌, inl, inr}
-use Rattle.std.specs.Prelude.{◌&&◌, ◌||◌, Option, None, Some}
-use Rattle.std.specs.Ordering.{int_eq}
+use Rattle.std.proofs.Common.{◌≡◌, ℤ, pos, Bool, true, false, List, [], ◌∷◌, map, refl, sym, ap, ◌∙◌, inl, inr}
+use Rattle.std.specs.Prelude.{◌||◌, Option, None, Some}
 use Rattle.std.proofs.lemmas.Bool.{false≢true, and_parts, and_from, cases_Bool}
 use Rattle.std.proofs.lemmas.Bool.Decides.{Decides-int_eq}
 use Rattle.region_paths.specs.declared.elements.Elem.{Elem}
@@ -14,9 +13,8 @@ use Rattle.task_matrix.specs.declared.equality.Term.TheVariants.{Literal, First,
 use Rattle.task_matrix.specs.Equalities.{term_value}
 use Rattle.task_matrix.specs.Solving.{after_steps, is_literal}
 use Rattle.task_matrix.specs.Solutions.{first_by, plain_value, second_by, solved_value}
-use Rattle.effect_meeting.specs.declared.column.Column.{Column}
 use Rattle.effect_meeting.specs.inner.Aligned.{all_stand, one_stands, one_under}
-use Rattle.effect_meeting.specs.inner.Columns.{all_near, all_plain, columns, is_near, is_plain, solid_or, solved_by}
+use Rattle.effect_meeting.specs.inner.Columns.{all_near, columns, is_near, solid_or, solved_by}
 
 or-right : (a b : Bool) → b ≡ true → (a || b) ≡ true
 or-right true b h = refl

@@ -1,20 +1,20 @@
 -- Equalities of columns hold exactly where a concrete path stands in them.
-use Rattle.std.proofs.Common.{◌≡◌, ◌↔◌, ◌⊎◌, ℕ, ℤ, pos, zero, suc, ◌+◌, ◌<◌, Bool, true, false, not, IsTrue, List, [], ◌∷◌, ◌++◌, length, map, inl, inr, refl, sym, ap, ap₂, ◌∙◌, subst, arith, eqb-true, eq-eqb, add-one}
-use Rattle.std.specs.Prelude.{◌&&◌, Option, None, Some, IfNone, IfSome, zip}
+use Rattle.std.proofs.Common.{◌≡◌, ◌↔◌, ◌⊎◌, ℕ, pos, zero, suc, ◌+◌, ◌<◌, Bool, true, false, not, IsTrue, List, [], ◌∷◌, ◌++◌, length, map, inl, inr, refl, sym, ap, ap₂, ◌∙◌, arith}
+use Rattle.std.specs.Prelude.{◌&&◌, Option, None, Some}
 use Rattle.std.specs.Ordering.{int_eq}
-use Rattle.std.specs.List.{flat_map, list_all}
-use Rattle.std.proofs.lemmas.Bool.{false≢true, and_parts, and_from, not-true, not_from_false, cases_Bool}
+use Rattle.std.specs.List.{flat_map}
+use Rattle.std.proofs.lemmas.Bool.{false≢true, and_parts, and_from, not-true}
 use Rattle.std.proofs.lemmas.Bool.Decides.{Decides-int_eq}
 use Rattle.region_paths.specs.declared.elements.Elem.{Elem}
 use Rattle.region_paths.specs.declared.elements.Elem.TheVariants.{Name, Index, Var, AnyIndex}
-use Rattle.region_paths.specs.Concrete.{ConcreteElem, ConcretePath, elem_stands, number, region}
+use Rattle.region_paths.specs.Concrete.{ConcreteElem, ConcretePath, elem_stands}
 use Rattle.region_paths.specs.Apart.{clash}
 use Rattle.region_paths.specs.Filled.{Valuation, elem_under}
 use Rattle.region_paths.proofs.ElementLaws.{clash-stands, common-stands-second, example, example-stands, is_var}
 use Rattle.task_matrix.specs.declared.equality.Equality.{Equality}
 use Rattle.task_matrix.specs.declared.equality.Term.TheVariants.{First, Second}
-use Rattle.task_matrix.specs.Equalities.{equality_holds, equalities_hold}
-use Rattle.task_matrix.specs.PathEqualities.{elem_equality, equal_terms}
+use Rattle.task_matrix.specs.Equalities.{equalities_hold}
+use Rattle.task_matrix.specs.PathEqualities.{equal_terms}
 use Rattle.task_matrix.proofs.Exactness.{all-two, clash-swap, elem-exact}
 use Rattle.effect_meeting.specs.declared.column.Column.{Column}
 use Rattle.effect_meeting.specs.Meeting.{AgreeBelow, as_written}

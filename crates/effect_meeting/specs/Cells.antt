@@ -8,6 +8,7 @@ use Rattle.twe_program.specs.declared.program.Dims.{Dims}
 use Rattle.twe_program.specs.declared.program.Dims.TheVariants.{Scalar, Row, Grid}
 use Rattle.twe_program.specs.declared.program.CellDecl.{CellDecl}
 use Rattle.effect_meeting.specs.declared.cells.CellMet.{CellMet}
+use Rattle.effect_meeting.specs.Values.{values_in}
 use Rattle.effect_meeting.specs.Meeting.{MeetAt, as_written}
 
 -- what the indexes of a cell are below: none of a single cell, one in an array, two in a grid
@@ -51,9 +52,11 @@ IsMetAt shared p q decl indexes = IsMetWithin shared p q decl.path.elems (index_
 abbrev pub IsNeverMet : ℕ → WrittenPath → WrittenPath → CellDecl → Type 0
 IsNeverMet shared p q decl = (indexes : List Elem) → ¬ IsMetAt shared p q decl indexes
 
--- they meet at a cell of this declaration, and at none of those before it
+-- they meet at a cell of this declaration, for these values of the parameters that stand in them, and at no cell of the
+-- declarations before it
 pub record IsFirstMet (shared : ℕ) (p q : WrittenPath) (cells : List CellDecl) (met : CellMet) : Type 0 where
   pub decl : CellDecl
   pub there : slice_get cells met.decl ≡ Some decl
   pub here : IsMetAt shared p q decl met.indexes
+  pub told : met.values ≡ values_in shared p q here.meet.first
   pub before : All (IsNeverMet shared p q) (take met.decl cells)

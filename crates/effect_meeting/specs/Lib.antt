@@ -1,3 +1,4 @@
+pub mod Values
 pub mod Meeting
 pub mod Cells
 pub mod inner

@@ -5,6 +5,9 @@ use Rattle.region_paths.specs.declared.elements.Elem.TheVariants.{Name, Index}
 use Rattle.region_paths.specs.Written.{WrittenPath}
 use Rattle.region_paths.specs.Concrete.{ConcreteElem, ConcretePath, InSet, number, region}
 use Rattle.region_paths.specs.Filled.{Valuation, under}
+use Rattle.effect_meeting.specs.declared.met.Met.{Met}
+use Rattle.effect_meeting.specs.declared.values.ParamValue.{ParamValue}
+use Rattle.effect_meeting.specs.Values.{values_in}
 
 -- the first variables, as many as this, have the same values
 abbrev pub AgreeBelow : ℕ → Valuation → Valuation → Type 0
@@ -29,6 +32,11 @@ abbrev pub as_written : ConcreteElem → Elem
 as_written (region n) = Name n
 as_written (number z) = Index z
 
--- these are the elements of a concrete path at which the paths meet
-abbrev pub AreWhereMet : ℕ → WrittenPath → WrittenPath → List Elem → Type 0
-AreWhereMet shared p q elems = (c : ConcretePath) × (elems ≡ map as_written c) × MeetAt shared p q c
+-- The paths meet at the concrete path for these values of the parameters that stand in them: those of one choice of values for
+-- all variables by which the concrete path is in both.
+abbrev pub IsMetFor : ℕ → WrittenPath → WrittenPath → ConcretePath → List ParamValue → Type 0
+IsMetFor shared p q c values = (meet : MeetAt shared p q c) × (values ≡ values_in shared p q meet.first)
+
+-- these are the elements of a concrete path at which the paths meet, and the values of parameters for which they meet there
+abbrev pub IsWhereMet : ℕ → WrittenPath → WrittenPath → Met → Type 0
+IsWhereMet shared p q met = (c : ConcretePath) × (met.elems ≡ map as_written c) × IsMetFor shared p q c met.values

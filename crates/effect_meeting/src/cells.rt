@@ -2,12 +2,14 @@
 ghost use Rattle.std.specs.Prelude.{◌≡◌, IfNone, IfOk, IfSome, Some, drop, map, zip};
 ghost use Rattle.std.specs.List.{All, list_all};
 ghost use Rattle.region_paths.specs.declared.elements.Elem.TheVariants.{AnyIndex};
-ghost use Rattle.effect_meeting.specs.Cells.{IsFirstMet, IsMetAt, IsMetWithin, IsNeverMet, index_bounds, is_index_below};
-ghost use Rattle.effect_meeting.specs.inner.CellLines.{IsNeverMetWithin, cell_line, is_written_below};
+ghost use Rattle.effect_meeting.specs.Cells.{IsFirstMet, IsNeverMet, index_bounds, is_index_below};
+ghost use Rattle.effect_meeting.specs.inner.CellLines.{IsMetAfter, IsNeverMetWithin, cell_line, is_written_below};
 ghost use Rattle.effect_meeting.specs.inner.Columns.{all_plain, is_plain};
 
 use crate::aligned::known;
 use crate::meeting::meeting_along;
+use crate::met::Met;
+use crate::values::Values;
 use region_paths::{Elem, Elems, Path};
 use std::alloc::{AllocError, Global};
 use twe_base::{List, Memory};
@@ -20,6 +22,8 @@ pub struct CellMet {
     pub decl: usize,
     /// Its indexes, which are literal: none of a single cell, one in an array, two in a grid.
     pub indexes: Elems,
+    /// The values for which they do of the parameters that stand in the paths.
+    pub values: Values,
 }
 
 /// What the indexes of a cell are below.
@@ -115,9 +119,9 @@ fn meeting_within(
     second: &Path,
     declared: &[Elem],
     bounds: &[u32],
-) -> Result<Option<Elems>, Memory>
+) -> Result<Option<Met>, Memory>
     ensures found { IfOk result (λ found.
-        IfSome found (IsMetWithin shared first.now second.now declared.now bounds.now)) }
+        IfSome found (IsMetAfter shared first.now second.now declared.now bounds.now)) }
     ensures none { IfOk result (λ found.
         IfNone found (IsNeverMetWithin shared first.now second.now declared.now bounds.now)) }
 {
@@ -127,10 +131,13 @@ fn meeting_within(
     }
     match meeting_along(alloc, shared, first, second, line.as_slice())? {
         None => Ok(None),
-        Some(elems) => {
-            let indexes = elements_after(alloc, elems.as_slice(), declared.len())?;
+        Some(met) => {
+            let indexes = elements_after(alloc, met.elems.as_slice(), declared.len())?;
             if are_written_below(bounds, indexes.as_slice()) {
-                Ok(Some(Elems::from(indexes)))
+                Ok(Some(Met {
+                    elems: Elems::from(indexes),
+                    values: met.values,
+                }))
             } else {
                 Ok(None)
             }
@@ -145,8 +152,9 @@ fn meeting_cell(
     first: &Path,
     second: &Path,
     decl: &CellDecl,
-) -> Result<Option<Elems>, Memory>
-    ensures found { IfOk result (λ found. IfSome found (IsMetAt shared first.now second.now decl.now)) }
+) -> Result<Option<Met>, Memory>
+    ensures found { IfOk result (λ found. IfSome found
+        (IsMetAfter shared first.now second.now decl.now.path.elems (index_bounds decl.now.dims))) }
     ensures none { IfOk result (λ found. IfNone found (IsNeverMet shared first.now second.now decl.now)) }
 {
     let bounds = index_bounds(alloc, decl.dims)?;
@@ -155,8 +163,8 @@ fn meeting_cell(
 }
 
 /// The first declaration with a cell at whose path the paths meet, and that cell. A cell is such if its path is in both for some
-/// values of their variables, of which the first ones, as many as are shared, have one value each. `None` is returned if and only
-/// if there is no such cell.
+/// values of their variables. The first variables, as many as are shared, are parameters, and have one value each: those of the
+/// parameters that stand in the paths are told. `None` is returned if and only if there is no such cell.
 pub fn first_cell(
     alloc: Global,
     shared: u32,
@@ -169,10 +177,11 @@ pub fn first_cell(
 {
     for (number, decl) in cells.iter().enumerate() {
         let found = meeting_cell(alloc, shared, first, second, decl)?;
-        if let Some(indexes) = found {
+        if let Some(met) = found {
             return Ok(Some(CellMet {
                 decl: number,
-                indexes,
+                indexes: met.elems,
+                values: met.values,
             }));
         }
     }

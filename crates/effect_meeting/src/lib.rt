@@ -9,7 +9,11 @@ mod cells;
 mod column;
 mod laws;
 mod meeting;
+mod met;
+mod values;
 
 pub use cells::{CellMet, first_cell};
 pub use laws::apart_paths_never_meet;
 pub use meeting::meeting_path;
+pub use met::Met;
+pub use values::{ParamValue, Values};

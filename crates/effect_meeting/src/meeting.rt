@@ -4,12 +4,14 @@ ghost use Rattle.region_paths.specs.Written.{PathIsWellFormed};
 ghost use Rattle.std.specs.List.{flat_map};
 ghost use Rattle.region_paths.specs.Filled.{Valuation};
 ghost use Rattle.task_matrix.specs.Equalities.{equalities_hold};
-ghost use Rattle.effect_meeting.specs.Meeting.{AgreeBelow, AreWhereMet, NeverMeet};
+ghost use Rattle.effect_meeting.specs.Meeting.{AgreeBelow, IsWhereMet, NeverMeet};
 ghost use Rattle.effect_meeting.specs.inner.Aligned.{has_length};
-ghost use Rattle.effect_meeting.specs.inner.Columns.{AreForcedAlong, AreMetAlong, NeverMeetAlong, all_plain, column_equalities};
+ghost use Rattle.effect_meeting.specs.inner.Columns.{IsForcedAlong, IsMetAlong, NeverMeetAlong, all_plain, column_equalities};
 
 use crate::aligned::{anything, at_length, common_length, has_length};
 use crate::column::{Column, all_solved_by, columns, push_column};
+use crate::met::Met;
+use crate::values::values_by;
 use region_paths::{Elem, Elems, Path};
 use std::alloc::Global;
 use task_matrix::{Equalities, Equality, Term, solution};
@@ -41,22 +43,21 @@ fn column_equalities(alloc: Global, shared: u32, columns: &[Column]) -> Result<E
     Ok(list)
 }
 
-/// The elements of a concrete path at which the paths meet, and for which the third list stands, if there is one. Both paths may
-/// have its length.
+/// A concrete path at which the paths meet, and for which the third list stands, if there is one. Both paths may have its length.
 fn meeting_in_columns(
     alloc: Global,
     shared: u32,
     first: &Path,
     second: &Path,
     third: &[Option<Elem>],
-) -> Result<Option<Elems>, Memory>
+) -> Result<Option<Met>, Memory>
     requires plain { IsTrue (all_plain third.now) }
     requires first_fits { IsTrue (has_length first.now (length third.now)) }
     requires second_fits { IsTrue (has_length second.now (length third.now)) }
     requires first_formed { PathIsWellFormed first.now }
     requires second_formed { PathIsWellFormed second.now }
-    ensures found { IfOk result (λ found. IfSome found (AreMetAlong shared first.now second.now third.now)) }
-    ensures forced { IfOk result (λ found. IfSome found (AreForcedAlong shared first.now second.now third.now)) }
+    ensures found { IfOk result (λ found. IfSome found (IsMetAlong shared first.now second.now third.now)) }
+    ensures forced { IfOk result (λ found. IfSome found (IsForcedAlong shared first.now second.now third.now)) }
     ensures none { IfOk result (λ found. IfNone found (NeverMeetAlong shared first.now second.now third.now)) }
 {
     let long = third.len();
@@ -68,22 +69,26 @@ fn meeting_in_columns(
         None => Ok(None),
         Some(steps) => {
             let elems = all_solved_by(alloc, steps.as_slice(), columns.as_slice())?;
-            Ok(Some(Elems::from(elems)))
+            let values = values_by(alloc, shared, first, second, steps.as_slice())?;
+            Ok(Some(Met {
+                elems: Elems::from(elems),
+                values,
+            }))
         }
     }
 }
 
-/// The elements of a concrete path at which the paths meet, and for which the third list stands, if there is one.
+/// A concrete path at which the paths meet, and for which the third list stands, if there is one.
 pub(crate) fn meeting_along(
     alloc: Global,
     shared: u32,
     first: &Path,
     second: &Path,
     third: &[Option<Elem>],
-) -> Result<Option<Elems>, Memory>
+) -> Result<Option<Met>, Memory>
     requires { IsTrue (all_plain third.now) }
-    ensures found { IfOk result (λ found. IfSome found (AreMetAlong shared first.now second.now third.now)) }
-    ensures forced { IfOk result (λ found. IfSome found (AreForcedAlong shared first.now second.now third.now)) }
+    ensures found { IfOk result (λ found. IfSome found (IsMetAlong shared first.now second.now third.now)) }
+    ensures forced { IfOk result (λ found. IfSome found (IsForcedAlong shared first.now second.now third.now)) }
     ensures none { IfOk result (λ found. IfNone found (NeverMeetAlong shared first.now second.now third.now)) }
 {
     if !has_length(first, third.len()) {
@@ -96,15 +101,16 @@ pub(crate) fn meeting_along(
 }
 
 /// The elements of a concrete path at which the paths meet: it is in both for some values of their variables. The first
-/// variables, as many as are shared, have one value each. `None` is returned if and only if the paths meet nowhere, whatever the
-/// values. The cost is the square of the length of the longer path at most.
+/// variables, as many as are shared, are parameters, and have one value each: those of the parameters that stand in the paths are
+/// told. `None` is returned if and only if the paths meet nowhere, whatever the values. The cost is at most the square of the
+/// number of the parameters and of the elements of the longer path together.
 pub fn meeting_path(
     alloc: Global,
     shared: u32,
     first: &Path,
     second: &Path,
-) -> Result<Option<Elems>, Memory>
-    ensures found { IfOk result (λ found. IfSome found (AreWhereMet shared first.now second.now)) }
+) -> Result<Option<Met>, Memory>
+    ensures found { IfOk result (λ found. IfSome found (IsWhereMet shared first.now second.now)) }
     ensures none { IfOk result (λ found. IfNone found (NeverMeet shared first.now second.now)) }
 {
     let anything = anything(alloc, common_length(first, second))?;

@@ -127,7 +127,7 @@ filtered {X} test P x xs rest true is h =
 filtered {X} test P x xs rest false is h =
     All-cons (λ (y : X). test y ≡ true → P y) x xs (λ passes. absurd (false≢true (is ∙ passes))) (rest h)
 
-unfiltered : {X : Type 0} (test : X → Bool) (P : X → Type 0) (xs : List X) → All P (filter test xs) → All (λ x. test x ≡ true → P x) xs
+pub unfiltered : {X : Type 0} (test : X → Bool) (P : X → Type 0) (xs : List X) → All P (filter test xs) → All (λ x. test x ≡ true → P x) xs
 unfiltered {X} test P [] all = All-nil (λ (x : X). test x ≡ true → P x)
 unfiltered {X} test P (x ∷ xs) all = filtered test P x xs (unfiltered test P xs) (test x) refl all
 

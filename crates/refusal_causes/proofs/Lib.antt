@@ -14,3 +14,5 @@ pub mod Following
 pub mod Entries
 pub mod Listed
 pub mod Kept
+-- What is made nowhere.
+pub mod Unmade

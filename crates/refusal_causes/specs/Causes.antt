@@ -1,5 +1,5 @@
 -- When a cause is true of a program.
-use Rattle.std.specs.Prelude.{◌≡◌, ℕ, Bool, true, false, not, ◌&&◌, IsTrue, List, Contains, Option, IfSome, is_some}
+use Rattle.std.specs.Prelude.{◌≡◌, ℕ, Bool, true, false, not, ◌&&◌, IsTrue, List, Contains, Option, IfNone, IfSome, is_some}
 use Rattle.twe_base.specs.declared.place.Place.{Place}
 use Rattle.effect_sets.specs.declared.effects.Effect.{Effect}
 use Rattle.effect_sets.specs.declared.effects.Summary.{Summary}
@@ -61,7 +61,7 @@ pub record IsOut (p : Program) (ways : Bool) (task : Decl) (place : Place) (need
   pub needs : NeedsAt p task point place need
   pub barred : IsBarred p ways task point need other future_place way
 
--- the future that a task waits for is made at this place
+-- the body of the task makes this future's task, and there the future's name is at the place
 pub record IsMadeAt (p : Program) (task : Decl) (future : ℕ) (future_place : Place) : Type 0 where
   pub at : ℕ
   pub spawned : Bool
@@ -70,8 +70,12 @@ pub record IsMadeAt (p : Program) (task : Decl) (future : ℕ) (future_place : P
   pub place : Place
   pub makes : Does p task at (Make future spawned deterministic effects future_place place)
 
--- the task joins a future at this place that is not out on some control path to it; if a place is named, the future's task
--- is made there
+-- the body makes this future's task nowhere
+abbrev pub IsMadeNowhere : Program → Decl → ℕ → Type 0
+IsMadeNowhere p task future = (future_place : Place) → ¬ IsMadeAt p task future future_place
+
+-- the task joins a future at this place that is not out on some control path to it; a place is named where the future's task is
+-- made, and none exactly if it is made nowhere
 pub record IsNotOut (p : Program) (ways : Bool) (task : Decl) (place : Place) (future_place : Option Place) (way : Option Way)
     : Type 0 where
   pub point : ℕ
@@ -82,6 +86,7 @@ pub record IsNotOut (p : Program) (ways : Bool) (task : Decl) (place : Place) (f
   pub not_out : ¬ SurelyOut task.body point future
   pub shown : IsWayIf ways task.body point future false way
   pub made : IfSome future_place (IsMadeAt p task future)
+  pub unmade : IfNone future_place (IsMadeNowhere p task future)
 
 -- the task spawns into a future at this place that may be out already
 pub record IsOutAgain (p : Program) (ways : Bool) (task : Decl) (place : Place) (way : Option Way) : Type 0 where

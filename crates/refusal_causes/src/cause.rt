@@ -31,7 +31,7 @@ pub enum RuleCause {
     },
     /// On some control path to a join its future is not out.
     NotOut {
-        /// The place of the future's name, where its task is made, if there is one.
+        /// The place of the future's name, where its task is made. `None` says that it is made nowhere.
         future_place: Option<Place>,
         /// A way on which the future is not out, if ways are wanted.
         way: Option<Way>,

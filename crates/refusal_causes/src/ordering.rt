@@ -1,12 +1,12 @@
 //! Joins and spawns of a task at a place, and what a deterministic task must not do: why the rules on these fail there.
-ghost use Rattle.std.specs.Prelude.{◌≡◌, Bool, true, IfNone, IfOk, IfSome};
+ghost use Rattle.std.specs.Prelude.{◌≡◌, Bool, false, true, IfNone, IfOk, IfSome};
 ghost use Rattle.std.specs.List.{All};
 ghost use Rattle.twe_program.specs.WellFormed.{DeclFits};
 ghost use Rattle.effect_check.specs.Acts.{acts_in_all};
 ghost use Rattle.effect_check.specs.Covered.{Does};
 ghost use Rattle.effect_check.specs.declared.rule.ERule.TheVariants.{E4, E5, E6, E7};
 ghost use Rattle.refusal_causes.specs.Causes.{IsCauseIn, IsMadeAt, has_open_order, spawns_other};
-ghost use Rattle.refusal_causes.specs.inner.Keeping.{IsDone, IsMaking, JoinsSurely, KeepsOrder, SpawnsAlike, SpawnsAnew};
+ghost use Rattle.refusal_causes.specs.inner.Keeping.{IsDone, IsMaking, IsNoMake, JoinsSurely, KeepsOrder, SpawnsAlike, SpawnsAnew, is_making};
 
 use crate::cause::RuleCause;
 use crate::needing::is_at;
@@ -19,7 +19,8 @@ use twe_program::{Decl, Prog};
 
 /// The place of the future's name, if this makes the task of the future.
 fn place_if_making(kind: &ActKind, wanted: u32) -> Option<Place>
-    ensures { IfSome result (λ place. IsMaking wanted place kind.now) }
+    ensures found { IfSome result (λ place. IsMaking wanted place kind.now) }
+    ensures none { IfNone result (is_making wanted kind.now ≡ false) }
 {
     match kind {
         ActKind::Make {
@@ -39,10 +40,12 @@ fn place_if_making(kind: &ActKind, wanted: u32) -> Option<Place>
     }
 }
 
-/// The place of the future's name, where one of these acts of the task makes the future's task.
+/// The place of the future's name, where one of these acts of the task makes the future's task. `None` is returned if and only if
+/// none of them does.
 pub fn place_of_making(p: &Prog, task: &Decl, acts: &[Act], future: u32) -> Option<Place>
     requires { All (IsDone p.now task.now) acts.now }
-    ensures { IfSome result (IsMadeAt p.now task.now future) }
+    ensures found { IfSome result (IsMadeAt p.now task.now future) }
+    ensures none { IfNone result (All (IsNoMake future) acts.now) }
 {
     let _ = p;
     let _ = task;

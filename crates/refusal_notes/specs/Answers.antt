@@ -3,6 +3,7 @@ use Rattle.std.specs.Prelude.{◌≡◌, ℕ, true, false, List}
 use Rattle.twe_base.specs.declared.place.Place.{Place}
 use Rattle.text_causes.specs.Open.{AreOpenAt}
 use Rattle.twe_ast.specs.declared.item.Ast.{Ast}
+use Rattle.twe_ast.specs.declared.name.Name.{Name}
 use Rattle.twe_program.specs.Program.{Program}
 use Rattle.twe_frontend.specs.declared.refusal.Refusal.{Refusal}
 use Rattle.twe_frontend.specs.Accepted.{Accepted, IsRefusal, IsTreeOf}
@@ -29,13 +30,17 @@ use Rattle.name_notes.specs.Variables.{variables_at}
 use Rattle.explain_pages.specs.Page.{refused_text}
 use Rattle.explain_pages.specs.declared.wanted.Wanted.{Wanted}
 
+-- the names of the variables of the declaration that the cause speaks of, by their numbers
+abbrev pub names_of : RuleCause → Ast → List Name
+names_of cause tree = variables_at tree.items (place_of_cause cause)
+
 -- what is said of a refusal with its cause, by the names that the text has
 abbrev pub caused_explanation : Refusal → RuleCause → Ast → Program → Explanation
-caused_explanation refusal cause tree p = explanation_by refusal cause p.regions (variables_at tree.items (place_of_cause cause))
+caused_explanation refusal cause tree p = explanation_by refusal cause p.regions (names_of cause tree)
 
 -- the edits that may mend a failure with this cause, by the names that the text has
 abbrev pub mends_of : List ℕ → Refusal → RuleCause → Ast → Program → List Mend
-mends_of text refusal cause tree p = mends_for text refusal.place cause p.regions (variables_at tree.items (place_of_cause cause))
+mends_of text refusal cause tree p = mends_for text refusal.place cause p.regions (names_of cause tree)
 
 -- The answer to a text that was read. All of it is on out, and the status is that of `twe check`.
 pub data ExplainDue (wanted : Wanted) (text : List ℕ) : Answer → Type 0 where
@@ -63,7 +68,8 @@ pub data ExplainDue (wanted : Wanted) (text : List ℕ) : Answer → Type 0 wher
   -- then where its two effects meet, if it has two. Edits that may mend it are tried, and what is said of those after which it is
   -- accepted comes last.
   caused : (refusal : Refusal) (cause : RuleCause) (tree : Ast) (p : Program) (told remarks : List (List ℕ))
-      → IsCausedBy text refusal cause tree p → IsMeetingTold p cause (caused_explanation refusal cause tree p).remarks told
+      → IsCausedBy text refusal cause tree p
+      → IsMeetingTold p (names_of cause tree) cause (caused_explanation refusal cause tree p).remarks told
       → AreTried (mends_of text refusal cause tree p) told remarks
       → ExplainDue wanted text (on_out Refused (refused_text wanted text refusal
       (record (caused_explanation refusal cause tree p) { remarks = remarks })))

@@ -6,13 +6,16 @@ use Rattle.twe_base.specs.declared.place.Place.{Place}
 use Rattle.region_paths.specs.declared.elements.Elem.{Elem}
 use Rattle.region_paths.specs.declared.elements.Elem.TheVariants.{Name, Index, Var, AnyIndex}
 use Rattle.effect_sets.specs.declared.effects.Effect.{Effect}
+use Rattle.twe_ast.specs.declared.name.Name as written
 use Rattle.twe_program.specs.declared.program.CellDecl.{CellDecl}
 use Rattle.twe_program.specs.declared.program.Decl.{Decl}
 use Rattle.twe_program.specs.Program.{Program}
 use Rattle.effect_meeting.specs.declared.cells.CellMet.{CellMet}
-use Rattle.effect_meeting.specs.Meeting.{AreWhereMet, NeverMeet}
+use Rattle.effect_meeting.specs.declared.met.Met.{Met}
+use Rattle.effect_meeting.specs.declared.values.ParamValue.{ParamValue}
+use Rattle.effect_meeting.specs.Meeting.{IsWhereMet, NeverMeet}
 use Rattle.effect_meeting.specs.Cells.{IsFirstMet, IsNeverMet}
-use Rattle.text_meaning.specs.PathTexts.{in_brackets, path_text}
+use Rattle.text_meaning.specs.PathTexts.{in_brackets, parameter_at, path_text}
 use Rattle.name_notes.specs.Variables.{is_same_place}
 use Rattle.refusal_causes.specs.declared.cause.RuleCause.{RuleCause}
 use Rattle.refusal_causes.specs.declared.cause.RuleCause.TheVariants.{Undeclared, Out, NotOut, OutAgain, OrderOpen, NotDeterministic}
@@ -44,9 +47,24 @@ declared_name (Some decl) = decl.name
 abbrev pub cell_met_text : List CellDecl → CellMet → List ℕ
 cell_met_text cells met = declared_name (slice_get cells met.decl) ++ flat_map cell_index_text met.indexes
 
--- both may touch this, and who writes it
-abbrev pub touch_text : List ℕ → Effect → Effect → List ℕ
-touch_text what need other = codes "both may touch " ++ (what ++ writers_text need.write other.write)
+-- a parameter between accents, and its value
+abbrev pub given_text : List written.Name → ParamValue → List ℕ
+given_text variables given =
+    codes "`" ++ (parameter_at variables given.param ++ (codes "` is " ++ signed_decimal given.value))
+
+-- the other parameters with their values
+abbrev pub more_given_texts : List written.Name → List ParamValue → List ℕ
+more_given_texts variables values = flat_map (λ given. codes " and " ++ given_text variables given) values
+
+-- for which values of parameters, if there are any: " if `i` is 3 and `j` is 0"
+abbrev pub condition_text : List written.Name → List ParamValue → List ℕ
+condition_text variables [] = []
+condition_text variables (given ∷ values) = codes " if " ++ (given_text variables given ++ more_given_texts variables values)
+
+-- both may touch this, for which values of parameters, and who writes it
+abbrev pub touch_text : List written.Name → List ℕ → List ParamValue → Effect → Effect → List ℕ
+touch_text variables what values need other =
+    codes "both may touch " ++ (what ++ (condition_text variables values ++ writers_text need.write other.write))
 
 -- a path between accents
 abbrev pub quoted_path : List (List ℕ) → List Elem → List ℕ
@@ -56,26 +74,30 @@ quoted_path regions elems = codes "`" ++ (path_text regions [] elems ++ codes "`
 abbrev pub nowhere_text : List ℕ
 nowhere_text = codes "no place is in both: the rule compares paths index by index"
 
--- What is said of where two effects meet, whose first variables, as many as are shared, are the parameters of the task.
-pub data MeetingDue (regions : List (List ℕ)) (cells : List CellDecl) (shared : ℕ) (need other : Effect) : List ℕ → Type 0 where
-  -- they meet at a cell, and it is of the first declaration that has such a cell
+-- What is said of where two effects meet. Their variables have these names, and the first of them, as many as are shared, are the
+-- parameters of the task.
+pub data MeetingDue (regions : List (List ℕ)) (cells : List CellDecl) (variables : List written.Name) (shared : ℕ)
+    (need other : Effect) : List ℕ → Type 0 where
+  -- they meet at a cell, and it is of the first declaration that has such a cell; they do for these values of parameters
   at_cell : (met : CellMet) → IsFirstMet shared need.path other.path cells met
-      → MeetingDue regions cells shared need other (touch_text (cell_met_text cells met) need other)
-  -- they meet at a path, and at no cell
-  at_path : (elems : List Elem) → AreWhereMet shared need.path other.path elems
+      → MeetingDue regions cells variables shared need other
+      (touch_text variables (cell_met_text cells met) met.values need other)
+  -- they meet at a path, for these values of parameters, and at no cell
+  at_path : (met : Met) → IsWhereMet shared need.path other.path met
       → All (IsNeverMet shared need.path other.path) cells
-      → MeetingDue regions cells shared need other (touch_text (quoted_path regions elems) need other)
+      → MeetingDue regions cells variables shared need other
+      (touch_text variables (quoted_path regions met.elems) met.values need other)
   -- they meet nowhere
   nowhere : NeverMeet shared need.path other.path
-      → MeetingDue regions cells shared need other nowhere_text
+      → MeetingDue regions cells variables shared need other nowhere_text
 
--- after these remarks comes what is said of where the effects of a cause meet, if it has two
-abbrev pub IsMeetingTold : Program → RuleCause → List (List ℕ) → List (List ℕ) → Type 0
-IsMeetingTold p (Undeclared need declared decl_place) old new = new ≡ old
-IsMeetingTold p (Out need other future_place way decl_place) old new =
+-- after these remarks comes what is said of where the effects of a cause meet, if it has two, whose variables have these names
+abbrev pub IsMeetingTold : Program → List written.Name → RuleCause → List (List ℕ) → List (List ℕ) → Type 0
+IsMeetingTold p variables (Undeclared need declared decl_place) old new = new ≡ old
+IsMeetingTold p variables (Out need other future_place way decl_place) old new =
     (remark : List ℕ) × (new ≡ old ++ remark ∷ [])
-    × MeetingDue p.regions p.cells (params_at p.tasks decl_place) need other remark
-IsMeetingTold p (NotOut future_place way) old new = new ≡ old
-IsMeetingTold p (OutAgain way) old new = new ≡ old
-IsMeetingTold p (OrderOpen makes decl_place) old new = new ≡ old
-IsMeetingTold p (NotDeterministic decl_place) old new = new ≡ old
+    × MeetingDue p.regions p.cells variables (params_at p.tasks decl_place) need other remark
+IsMeetingTold p variables (NotOut future_place way) old new = new ≡ old
+IsMeetingTold p variables (OutAgain way) old new = new ≡ old
+IsMeetingTold p variables (OrderOpen makes decl_place) old new = new ≡ old
+IsMeetingTold p variables (NotDeterministic decl_place) old new = new ≡ old

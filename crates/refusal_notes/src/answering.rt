@@ -181,7 +181,7 @@ pub(crate) fn answer_caused(
     let regions = p.regions.as_slice();
     let mends = mends_for(alloc, text, refusal.place, cause, regions, names.as_slice())?;
     let mut explanation = explanation_by(alloc, refusal, cause, regions, names.as_slice())?;
-    tell_meeting(&mut explanation.remarks, alloc, p, cause)?;
+    tell_meeting(&mut explanation.remarks, alloc, p, names.as_slice(), cause)?;
     try_mends(&mut explanation.remarks, alloc, mends.as_slice())?;
     let lines = refused_text(alloc, wanted, text, refusal, &explanation)?;
     Ok(Answer::on_out(alloc, Status::Refused, lines))

@@ -3,15 +3,16 @@ ghost use Rattle.std.specs.Prelude.{◌≡◌, ◌∷◌, ◌++◌, [], IfOk, On
 ghost use Rattle.std.specs.List.{All, flat_map};
 ghost use Rattle.effect_meeting.specs.Cells.{IsNeverMet};
 ghost use Rattle.name_notes.specs.Variables.{is_same_place};
-ghost use Rattle.refusal_notes.specs.Meetings.{IsMeetingTold, MeetingDue, cell_index_text, cell_met_text, nowhere_text, params_at, quoted_path, touch_text, writers_text};
+ghost use Rattle.refusal_notes.specs.Meetings.{IsMeetingTold, MeetingDue, cell_index_text, cell_met_text, more_given_texts, nowhere_text, params_at, quoted_path, touch_text, given_text, condition_text, writers_text};
 
-use effect_meeting::{CellMet, first_cell, meeting_path};
+use effect_meeting::{CellMet, Met, ParamValue, first_cell, meeting_path};
 use effect_sets::Effect;
 use itoa::Buffer;
 use refusal_causes::RuleCause;
 use region_paths::Elem;
 use std::alloc::Global;
-use text_meaning::push_path;
+use text_meaning::{push_parameter, push_path};
+use twe_ast::Name;
 use twe_base::{Bytes, List, Memory, Place, Word};
 use twe_program::{CellDecl, Decl, Prog};
 
@@ -85,12 +86,59 @@ fn cell_met_text(alloc: Global, cells: &[CellDecl], met: &CellMet) -> Result<Byt
     Ok(text)
 }
 
-/// That both effects may touch this, and who writes it.
-fn touch_text(alloc: Global, what: &[u8], need: &Effect, other: &Effect) -> Result<Bytes, Memory>
-    ensures { IfOk result (λ text. text ≡ touch_text what.now need.now other.now) }
+/// Appends a parameter between accents, and its value.
+fn push_given(text: &mut Bytes, variables: &[Name], given: ParamValue) -> Result<(), Memory>
+    ensures { OnOk result (text.new ≡ text.old ++ given_text variables.now given) }
+{
+    text.push(b'`')?;
+    push_parameter(text, variables, given.param)?;
+    text.push_all(b"` is ")?;
+    text.push_all(Buffer::new().format(given.value).as_bytes())
+}
+
+/// Appends the other parameters with their values.
+fn push_more_given(
+    text: &mut Bytes,
+    variables: &[Name],
+    values: &[ParamValue],
+) -> Result<(), Memory>
+    ensures { OnOk result (text.new ≡ text.old ++ more_given_texts variables.now values.now) }
+{
+    for given in values {
+        text.push_all(b" and ")?;
+        push_given(text, variables, *given)?;
+    }
+    Ok(())
+}
+
+/// Appends for which values of parameters, if there are any.
+fn push_condition(text: &mut Bytes, variables: &[Name], values: &[ParamValue]) -> Result<(), Memory>
+    ensures { OnOk result (text.new ≡ text.old ++ condition_text variables.now values.now) }
+{
+    match values {
+        [] => Ok(()),
+        [given, others @ ..] => {
+            text.push_all(b" if ")?;
+            push_given(text, variables, *given)?;
+            push_more_given(text, variables, others)
+        }
+    }
+}
+
+/// That both effects may touch this, for which values of parameters, and who writes it.
+fn touch_text(
+    alloc: Global,
+    variables: &[Name],
+    what: &[u8],
+    values: &[ParamValue],
+    need: &Effect,
+    other: &Effect,
+) -> Result<Bytes, Memory>
+    ensures { IfOk result (λ text. text ≡ touch_text variables.now what.now values.now need.now other.now) }
 {
     let mut text = Bytes::from_slice(alloc, b"both may touch ")?;
     text.push_all(what)?;
+    push_condition(&mut text, variables, values)?;
     text.push_all(writers_text(need.write, other.write))?;
     Ok(text)
 }
@@ -109,28 +157,46 @@ fn quoted_path(alloc: Global, regions: &[Word], elems: &[Elem]) -> Result<Bytes,
 fn path_touched(
     alloc: Global,
     regions: &[Word],
-    elems: &[Elem],
+    variables: &[Name],
+    met: &Met,
     need: &Effect,
     other: &Effect,
 ) -> Result<Bytes, Memory>
-    ensures { IfOk result (λ text. text ≡ touch_text (quoted_path regions.now elems.now) need.now other.now) }
+    ensures { IfOk result (λ text. text
+        ≡ touch_text variables.now (quoted_path regions.now met.now.elems) met.now.values need.now other.now) }
 {
-    let path = quoted_path(alloc, regions, elems)?;
-    touch_text(alloc, path.as_slice(), need, other)
+    let path = quoted_path(alloc, regions, met.elems.as_slice())?;
+    touch_text(
+        alloc,
+        variables,
+        path.as_slice(),
+        met.values.as_slice(),
+        need,
+        other,
+    )
 }
 
 /// That both effects may touch a cell, and who writes it.
 fn cell_touched(
     alloc: Global,
     cells: &[CellDecl],
+    variables: &[Name],
     met: &CellMet,
     need: &Effect,
     other: &Effect,
 ) -> Result<Bytes, Memory>
-    ensures { IfOk result (λ text. text ≡ touch_text (cell_met_text cells.now met.now) need.now other.now) }
+    ensures { IfOk result (λ text. text
+        ≡ touch_text variables.now (cell_met_text cells.now met.now) met.now.values need.now other.now) }
 {
     let cell = cell_met_text(alloc, cells, met)?;
-    touch_text(alloc, cell.as_slice(), need, other)
+    touch_text(
+        alloc,
+        variables,
+        cell.as_slice(),
+        met.values.as_slice(),
+        need,
+        other,
+    )
 }
 
 /// That the effects meet nowhere.
@@ -146,12 +212,13 @@ fn path_remark(
     alloc: Global,
     regions: &[Word],
     cells: &[CellDecl],
+    variables: &[Name],
     shared: u32,
     need: &Effect,
     other: &Effect,
 ) -> Result<Bytes, Memory>
     requires { All (IsNeverMet shared need.now.path other.now.path) cells.now }
-    ensures { IfOk result (MeetingDue regions.now cells.now shared need.now other.now) }
+    ensures { IfOk result (MeetingDue regions.now cells.now variables.now shared need.now other.now) }
 {
     let _ = cells;
     match meeting_path(alloc, shared, &need.path, &other.path)? {
@@ -159,8 +226,8 @@ fn path_remark(
             let text = nowhere_text(alloc)?;
             Ok(text)
         }
-        Some(elems) => {
-            let text = path_touched(alloc, regions, elems.as_slice(), need, other)?;
+        Some(met) => {
+            let text = path_touched(alloc, regions, variables, &met, need, other)?;
             Ok(text)
         }
     }
@@ -171,29 +238,31 @@ fn meeting_remark(
     alloc: Global,
     regions: &[Word],
     cells: &[CellDecl],
+    variables: &[Name],
     shared: u32,
     need: &Effect,
     other: &Effect,
 ) -> Result<Bytes, Memory>
-    ensures { IfOk result (MeetingDue regions.now cells.now shared need.now other.now) }
+    ensures { IfOk result (MeetingDue regions.now cells.now variables.now shared need.now other.now) }
 {
     match first_cell(alloc, shared, &need.path, &other.path, cells)? {
-        None => path_remark(alloc, regions, cells, shared, need, other),
+        None => path_remark(alloc, regions, cells, variables, shared, need, other),
         Some(met) => {
-            let text = cell_touched(alloc, cells, &met, need, other)?;
+            let text = cell_touched(alloc, cells, variables, &met, need, other)?;
             Ok(text)
         }
     }
 }
 
-/// Appends what is said of where the effects of a cause meet, if it has two.
+/// Appends what is said of where the effects of a cause meet, if it has two, whose variables have these names.
 pub(crate) fn tell_meeting(
     remarks: &mut List<Bytes>,
     alloc: Global,
     p: &Prog,
+    variables: &[Name],
     cause: &RuleCause,
 ) -> Result<(), Memory>
-    ensures { OnOk result (IsMeetingTold p.now cause.now remarks.old remarks.new) }
+    ensures { OnOk result (IsMeetingTold p.now variables.now cause.now remarks.old remarks.new) }
 {
     match cause {
         RuleCause::Out {
@@ -205,7 +274,7 @@ pub(crate) fn tell_meeting(
             let shared = params_at(p.tasks.as_slice(), *decl_place);
             let regions = p.regions.as_slice();
             let cells = p.cells.as_slice();
-            let remark = meeting_remark(alloc, regions, cells, shared, need, other)?;
+            let remark = meeting_remark(alloc, regions, cells, variables, shared, need, other)?;
             remarks.push(remark)
         }
         RuleCause::Undeclared { .. } => Ok(()),

@@ -1,17 +1,17 @@
 -- The elements of three paths at one position.
 use Rattle.std.specs.Prelude.{◌≡◌, ℕ, pos, Bool, true, false, ◌&&◌, ◌||◌, List, [], ◌∷◌, ◌++◌, Option, None, Some, IsTrue, map, zip}
 use Rattle.std.specs.Ordering.{int_eq}
-use Rattle.std.specs.List.{flat_map, list_all}
+use Rattle.std.specs.List.{list_all}
 use Rattle.region_paths.specs.declared.elements.Elem.{Elem}
 use Rattle.region_paths.specs.declared.elements.Elem.TheVariants.{Name, Index, Var, AnyIndex}
 use Rattle.region_paths.specs.Written.{WrittenPath}
 use Rattle.region_paths.specs.Concrete.{ConcreteElem, ConcretePath, elem_stands}
-use Rattle.region_paths.specs.Filled.{elem_under}
 use Rattle.task_matrix.specs.declared.equality.Equality.{Equality}
 use Rattle.task_matrix.specs.PathEqualities.{elem_equality}
 use Rattle.task_matrix.specs.Solutions.{first_by, second_by}
 use Rattle.effect_meeting.specs.declared.column.Column.{Column}
-use Rattle.effect_meeting.specs.Meeting.{MeetAt, as_written}
+use Rattle.effect_meeting.specs.declared.met.Met.{Met}
+use Rattle.effect_meeting.specs.Meeting.{IsMetFor, MeetAt, as_written}
 use Rattle.effect_meeting.specs.inner.Aligned.{all_stand, one_under}
 
 -- three lists as columns
@@ -55,10 +55,10 @@ abbrev pub solved_by : List Equality → Column → Elem
 solved_by steps column =
     solid_of (one_under (first_by steps) column.first) (one_under (second_by steps) column.second) column.third
 
--- the elements are those of a concrete path at which the paths meet, and for which the third list stands
-abbrev pub AreMetAlong : ℕ → WrittenPath → WrittenPath → List (Option Elem) → List Elem → Type 0
-AreMetAlong shared p q third elems =
-    (c : ConcretePath) × (elems ≡ map as_written c) × MeetAt shared p q c × IsTrue (all_stand third c)
+-- the elements are those of a concrete path at which the paths meet for the values, and for which the third list stands
+abbrev pub IsMetAlong : ℕ → WrittenPath → WrittenPath → List (Option Elem) → Met → Type 0
+IsMetAlong shared p q third met =
+    (c : ConcretePath) × (met.elems ≡ map as_written c) × IsMetFor shared p q c met.values × IsTrue (all_stand third c)
 
 -- the third list stands for no concrete path at which the paths meet
 abbrev pub NeverMeetAlong : ℕ → WrittenPath → WrittenPath → List (Option Elem) → Type 0
@@ -79,6 +79,6 @@ all_near (e ∷ es) [] = false
 all_near (e ∷ es) (c ∷ cs) = is_near e c && all_near es cs
 
 -- wherever the paths meet and the third list stands, there are these elements, but for those that are index 0
-abbrev pub AreForcedAlong : ℕ → WrittenPath → WrittenPath → List (Option Elem) → List Elem → Type 0
-AreForcedAlong shared p q third elems =
-    (c : ConcretePath) → MeetAt shared p q c → IsTrue (all_stand third c) → IsTrue (all_near elems c)
+abbrev pub IsForcedAlong : ℕ → WrittenPath → WrittenPath → List (Option Elem) → Met → Type 0
+IsForcedAlong shared p q third met =
+    (c : ConcretePath) → MeetAt shared p q c → IsTrue (all_stand third c) → IsTrue (all_near met.elems c)

@@ -1,5 +1,5 @@
 -- What is so if no cause is found.
-use Rattle.std.specs.Prelude.{◌≡◌, ℕ, Bool, true, false, IsTrue, List, Option, None, Some, if◌then◌else◌}
+use Rattle.std.specs.Prelude.{◌≡◌, ◌==◌, ℕ, Bool, true, false, IsTrue, List, Option, None, Some, if◌then◌else◌}
 use Rattle.std.specs.List.{All}
 use Rattle.twe_base.specs.declared.place.Place.{Place}
 use Rattle.effect_sets.specs.declared.effects.Effect.{Effect}
@@ -90,6 +90,17 @@ IsMaking wanted place (Touch effect at) = ⊥
 IsMaking wanted place (Call effects at) = ⊥
 IsMaking wanted place (Make future spawned deterministic effects future_place at) = (future ≡ wanted) × (future_place ≡ place)
 IsMaking wanted place (Wait future join at) = ⊥
+
+-- whether this makes the task of the future
+abbrev pub is_making : ℕ → ActKind → Bool
+is_making wanted (Touch effect place) = false
+is_making wanted (Call effects place) = false
+is_making wanted (Make future spawned deterministic effects future_place place) = future == wanted
+is_making wanted (Wait future join place) = false
+
+-- the act does not make the task of the future
+abbrev pub IsNoMake : ℕ → Act → Type 0
+IsNoMake wanted act = is_making wanted act.kind ≡ false
 
 -- if this is a join at the place, its future is surely out
 abbrev pub JoinsSurely : Decl → Place → ℕ → ActKind → Type 0

@@ -1,4 +1,4 @@
-use Rattle.std.proofs.Common.{◌≡◌, ℕ, Option, List, IfNone, None, Some, sym, ap, ◌∙◌, subst, rules}
+use Rattle.std.proofs.Common.{◌≡◌, ℕ, List, IfNone, subst, rules}
 use Rattle.std.proofs.lemmas.Result.{IfOk-weaker}
 use Rattle.region_paths.specs.declared.elements.Elem.{Elem}
 use Rattle.effect_meeting.specs.Cells.{IsNeverMet, index_bounds}

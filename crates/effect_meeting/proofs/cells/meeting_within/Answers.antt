@@ -1,8 +1,8 @@
-use Rattle.std.proofs.Common.{◌≡◌, Bool, Option, List, IfNone, IfSome, None, Some, true, drop, length, sym, ap, ◌∙◌, subst, rules}
+use Rattle.std.proofs.Common.{◌≡◌, Option, List, IfNone, IfSome, drop, length, sym, ap, ◌∙◌, subst, rules}
 use Rattle.region_paths.specs.declared.elements.Elem.{Elem}
-use Rattle.effect_meeting.specs.Cells.{IsMetWithin}
-use Rattle.effect_meeting.specs.inner.CellLines.{cell_line}
-use Rattle.effect_meeting.specs.inner.Columns.{AreForcedAlong, AreMetAlong, NeverMeetAlong, all_plain}
+use Rattle.effect_meeting.specs.declared.met.Met.{Met}
+use Rattle.effect_meeting.specs.inner.CellLines.{IsMetAfter, cell_line}
+use Rattle.effect_meeting.specs.inner.Columns.{IsForcedAlong, IsMetAlong, NeverMeetAlong, all_plain}
 use Rattle.effect_meeting.proofs.CellLaws.{met-within, never-below, never-line, never-plain, written_below}
 use Rattle.effect_meeting.proofs.cells.meeting_within.Goals as goal
 
@@ -20,7 +20,7 @@ returns-in-None-clause-none c =
     let empty : IfNone c.in_ok-meeting_along.field-0 (NeverMeetAlong c.args.shared c.args.first.now c.args.second.now c.as_slice-2.result.now) =
     c.in_ok-meeting_along.ensures.none in
     let never : NeverMeetAlong c.args.shared c.args.first.now c.args.second.now c.as_slice-2.result.now =
-    subst (λ (o : Option (List Elem)). IfNone o (NeverMeetAlong c.args.shared c.args.first.now c.args.second.now c.as_slice-2.result.now)) c.in-None.is empty in
+    subst (λ (o : Option Met). IfNone o (NeverMeetAlong c.args.shared c.args.first.now c.args.second.now c.as_slice-2.result.now)) c.in-None.is empty in
     never-line c.args.shared c.args.first.now c.args.second.now c.args.declared.now c.args.bounds.now
     (subst (NeverMeetAlong c.args.shared c.args.first.now c.args.second.now) line never)
 
@@ -30,15 +30,15 @@ returns-then-are_written_below-clause-found c =
     let declared = c.args.declared.now in
     let bounds = c.args.bounds.now in
     let line : c.as_slice-2.result.now ≡ cell_line declared bounds = search rules in
-    let there : IfSome c.in_ok-meeting_along.field-0 (AreMetAlong c.args.shared c.args.first.now c.args.second.now c.as_slice-2.result.now) =
+    let there : IfSome c.in_ok-meeting_along.field-0 (IsMetAlong c.args.shared c.args.first.now c.args.second.now c.as_slice-2.result.now) =
     c.in_ok-meeting_along.ensures.found in
-    let met : AreMetAlong c.args.shared c.args.first.now c.args.second.now c.as_slice-2.result.now c.in-Some.elems =
-    subst (λ (o : Option (List Elem)). IfSome o (AreMetAlong c.args.shared c.args.first.now c.args.second.now c.as_slice-2.result.now)) c.in-Some.is there in
-    let elems : c.as_slice-in-Some-2.result.now ≡ drop (length declared) c.in-Some.elems = search rules in
-    let is : c.from.result ≡ drop (length declared) c.in-Some.elems = search rules in
-    subst (IsMetWithin c.args.shared c.args.first.now c.args.second.now declared bounds) (sym is)
-    (met-within c.args.shared c.args.first.now c.args.second.now declared bounds c.in-Some.elems
-    (subst (λ (zs : List (Option Elem)). AreMetAlong c.args.shared c.args.first.now c.args.second.now zs c.in-Some.elems) line met)
+    let met : IsMetAlong c.args.shared c.args.first.now c.args.second.now c.as_slice-2.result.now c.in-Some.met =
+    subst (λ (o : Option Met). IfSome o (IsMetAlong c.args.shared c.args.first.now c.args.second.now c.as_slice-2.result.now)) c.in-Some.is there in
+    let elems : c.as_slice-in-Some-2.result.now ≡ drop (length declared) c.in-Some.met.elems = search rules in
+    let is : c.from.result ≡ drop (length declared) c.in-Some.met.elems = search rules in
+    subst (λ (es : List Elem). IsMetAfter c.args.shared c.args.first.now c.args.second.now declared bounds (record { elems = es; values = c.in-Some.met.values })) (sym is)
+    (met-within c.args.shared c.args.first.now c.args.second.now declared bounds c.in-Some.met
+    (subst (λ (zs : List (Option Elem)). IsMetAlong c.args.shared c.args.first.now c.args.second.now zs c.in-Some.met) line met)
     (ap (written_below bounds) (sym elems) ∙ sym c.are_written_below.ensures ∙ c.if-are_written_below.true))
 
 -- where the indexes are not below, no others are
@@ -47,11 +47,11 @@ returns-clause-none c =
     let declared = c.args.declared.now in
     let bounds = c.args.bounds.now in
     let line : c.as_slice-2.result.now ≡ cell_line declared bounds = search rules in
-    let there : IfSome c.in_ok-meeting_along.field-0 (AreForcedAlong c.args.shared c.args.first.now c.args.second.now c.as_slice-2.result.now) =
+    let there : IfSome c.in_ok-meeting_along.field-0 (IsForcedAlong c.args.shared c.args.first.now c.args.second.now c.as_slice-2.result.now) =
     c.in_ok-meeting_along.ensures.forced in
-    let forced : AreForcedAlong c.args.shared c.args.first.now c.args.second.now c.as_slice-2.result.now c.in-Some.elems =
-    subst (λ (o : Option (List Elem)). IfSome o (AreForcedAlong c.args.shared c.args.first.now c.args.second.now c.as_slice-2.result.now)) c.in-Some.is there in
-    let elems : c.as_slice-in-Some-2.result.now ≡ drop (length declared) c.in-Some.elems = search rules in
-    never-below c.args.shared c.args.first.now c.args.second.now declared bounds c.in-Some.elems
-    (subst (λ (zs : List (Option Elem)). AreForcedAlong c.args.shared c.args.first.now c.args.second.now zs c.in-Some.elems) line forced)
+    let forced : IsForcedAlong c.args.shared c.args.first.now c.args.second.now c.as_slice-2.result.now c.in-Some.met =
+    subst (λ (o : Option Met). IfSome o (IsForcedAlong c.args.shared c.args.first.now c.args.second.now c.as_slice-2.result.now)) c.in-Some.is there in
+    let elems : c.as_slice-in-Some-2.result.now ≡ drop (length declared) c.in-Some.met.elems = search rules in
+    never-below c.args.shared c.args.first.now c.args.second.now declared bounds c.in-Some.met
+    (subst (λ (zs : List (Option Elem)). IsForcedAlong c.args.shared c.args.first.now c.args.second.now zs c.in-Some.met) line forced)
     (ap (written_below bounds) (sym elems) ∙ sym c.are_written_below.ensures ∙ c.if-are_written_below.false)

@@ -1,14 +1,16 @@
-use Rattle.std.proofs.Common.{◌≡◌, ◌↔◌, IsTrue, Option, List, IfNone, IfSome, None, Some, length, map, sym, ap, ◌∙◌, subst, rules}
+use Rattle.std.proofs.Common.{◌≡◌, ◌↔◌, IsTrue, Option, List, IfNone, IfSome, length, map, sym, ap, ◌∙◌, subst, rules}
 use Rattle.std.specs.List.{flat_map}
 use Rattle.region_paths.specs.declared.elements.Elem.{Elem}
 use Rattle.region_paths.specs.Filled.{Valuation}
 use Rattle.task_matrix.specs.declared.equality.Equality.{Equality}
 use Rattle.task_matrix.specs.Equalities.{equalities_hold}
-use Rattle.task_matrix.specs.Solutions.{AreSolvedBy, NeverHold}
+use Rattle.task_matrix.specs.Solutions.{AreSolvedBy, NeverHold, first_by}
 use Rattle.effect_meeting.specs.declared.column.Column.{Column}
+use Rattle.effect_meeting.specs.declared.values.ParamValue.{ParamValue}
+use Rattle.effect_meeting.specs.Values.{values_in}
 use Rattle.effect_meeting.specs.Meeting.{AgreeBelow}
 use Rattle.effect_meeting.specs.inner.Aligned.{at_length}
-use Rattle.effect_meeting.specs.inner.Columns.{AreForcedAlong, AreMetAlong, column_equalities, columns, solved_by}
+use Rattle.effect_meeting.specs.inner.Columns.{IsForcedAlong, IsMetAlong, column_equalities, columns, solved_by}
 use Rattle.effect_meeting.proofs.Along.{AreNeeded, cols, forced-along, met-along, never-along}
 use Rattle.effect_meeting.proofs.meeting.meeting_in_columns.Goals as goal
 
@@ -55,10 +57,13 @@ returns-clause-found c =
     let is : c.from.result ≡ map (solved_by c.in-Some.steps) (cols c.args.shared p q zs) =
     elems ∙ ap (λ (es : List Equality). map (solved_by es) c.as_slice-in-Some-2.result.now) steps
     ∙ ap (λ (cs : List Column). map (solved_by c.in-Some.steps) cs) (slice ∙ all) in
-    subst (AreMetAlong c.args.shared p q zs) (sym is)
+    let values = c.in_ok-values-in-Some.values in
+    let told : values ≡ values_in c.args.shared p q (first_by c.in-Some.steps) = search rules in
+    subst (λ (es : List Elem). IsMetAlong c.args.shared p q zs (record { elems = es; values = values })) (sym is)
+    (subst (λ (us : List ParamValue). IsMetAlong c.args.shared p q zs (record { elems = map (solved_by c.in-Some.steps) (cols c.args.shared p q zs); values = us })) (sym told)
     (met-along c.args.shared p q zs c.in_ok-equalities.equalities c.in-Some.steps c.requires.first_formed c.requires.second_formed
     c.requires.first_fits c.requires.second_fits c.requires.plain needed
-    (subst (λ (es : List Equality). AreSolvedBy es c.in-Some.steps) c.as_slice-4.ensures solved))
+    (subst (λ (es : List Equality). AreSolvedBy es c.in-Some.steps) c.as_slice-4.ensures solved)))
 
 -- and what they force
 pub returns-clause-forced : goal.returns-clause-forced
@@ -83,7 +88,8 @@ returns-clause-forced c =
     let is : c.from.result ≡ map (solved_by c.in-Some.steps) (cols c.args.shared p q zs) =
     elems ∙ ap (λ (es : List Equality). map (solved_by es) c.as_slice-in-Some-2.result.now) steps
     ∙ ap (λ (cs : List Column). map (solved_by c.in-Some.steps) cs) (slice ∙ all) in
-    subst (AreForcedAlong c.args.shared p q zs) (sym is)
+    let values = c.in_ok-values-in-Some.values in
+    subst (λ (es : List Elem). IsForcedAlong c.args.shared p q zs (record { elems = es; values = values })) (sym is)
     (forced-along c.args.shared p q zs c.in_ok-equalities.equalities c.in-Some.steps c.requires.first_formed c.requires.second_formed
     c.requires.plain needed
-    (subst (λ (es : List Equality). AreSolvedBy es c.in-Some.steps) c.as_slice-4.ensures solved))
+    (subst (λ (es : List Equality). AreSolvedBy es c.in-Some.steps) c.as_slice-4.ensures solved) values)

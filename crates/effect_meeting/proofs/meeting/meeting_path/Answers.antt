@@ -1,6 +1,5 @@
-use Rattle.std.proofs.Common.{◌≡◌, Option, List, IfNone, None, replicate, sym, ap, ◌∙◌, subst, rules}
+use Rattle.std.proofs.Common.{◌≡◌, IfNone, None, replicate, ap, ◌∙◌, subst, rules}
 use Rattle.std.proofs.lemmas.Result.{IfOk-weaker}
-use Rattle.region_paths.specs.declared.elements.Elem.{Elem}
 use Rattle.effect_meeting.specs.Meeting.{NeverMeet}
 use Rattle.effect_meeting.specs.inner.Aligned.{common_length}
 use Rattle.effect_meeting.specs.inner.Columns.{NeverMeetAlong, all_plain}

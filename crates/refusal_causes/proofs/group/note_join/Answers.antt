@@ -8,7 +8,9 @@ use Rattle.refusal_causes.specs.inner.Listed.{waits_among}
 use Rattle.refusal_causes.proofs.Covering.{in_range}
 use Rattle.refusal_causes.proofs.Joins.{joins_surely}
 use Rattle.refusal_causes.proofs.Kept.{makes_done}
+use Rattle.refusal_causes.proofs.Loops.{if_none}
 use Rattle.refusal_causes.proofs.Needs.{is_there}
+use Rattle.refusal_causes.proofs.Unmade.{not_among}
 use Rattle.refusal_causes.proofs.group.note_join.Goals as goal
 
 -- the future is none of these
@@ -58,6 +60,10 @@ note_of_task-requires-clause-caused c =
         not_out = λ out. false≢true (sym (sym c.surely.ensures ∙ c.if-surely.false)
             ∙ (c.requires.group.facts.surely point arm.future within.0 within.1 (sym c.follows.ensures ∙ c.if-not-follows.false)).1 out);
         shown = (refl, tt);
-        made = c.place_of_making-future_place.ensures;
+        made = c.place_of_making-future_place.ensures.found;
+        unmade = if_none c.place_of_making-future_place.result _ _
+            (not_among p task arm.future c.args.points.now.first c.args.makes.now c.requires.group.are
+            (sym c.follows.ensures ∙ c.if-not-follows.false))
+            c.place_of_making-future_place.ensures.none;
       },
     )

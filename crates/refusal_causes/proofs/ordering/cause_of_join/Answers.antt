@@ -6,8 +6,10 @@ use Rattle.effect_check.specs.declared.act.ActKind.{ActKind}
 use Rattle.effect_check.specs.declared.act.ActKind.TheVariants.{Wait}
 use Rattle.effect_check.specs.Acts.{acts_in_all}
 use Rattle.effect_check.specs.Covered.{Does}
-use Rattle.refusal_causes.specs.inner.Keeping.{IsDone, JoinsSurely}
+use Rattle.refusal_causes.specs.inner.Keeping.{IsDone, IsNoMake, JoinsSurely}
 use Rattle.refusal_causes.proofs.Joins.{joins_surely, not_surely_out, surely_out}
+use Rattle.refusal_causes.proofs.Loops.{if_none}
+use Rattle.refusal_causes.proofs.Unmade.{made_nowhere}
 use Rattle.refusal_causes.proofs.WaysThere.{not_surely_show}
 use Rattle.refusal_causes.proofs.ordering.cause_of_join.Goals as goal
 
@@ -45,7 +47,10 @@ returns-else-surely-clause-found c =
         not_out = not_surely_out p task c.requires.fits flow.points flow.ensures.exact arm.future flow.ensures.first point arm.join arm.at does
             (sym c.surely.ensures ∙ c.if-surely.false);
         shown = c.way_if-way.ensures;
-        made = c.place_of_making-future_place.ensures;
+        made = c.place_of_making-future_place.ensures.found;
+        unmade = if_none c.place_of_making-future_place.result _ _
+            (λ none. made_nowhere p task arm.future (subst (All (IsNoMake arm.future)) c.requires.all none))
+            c.place_of_making-future_place.ensures.none;
       },
     )
 

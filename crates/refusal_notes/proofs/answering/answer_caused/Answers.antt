@@ -38,12 +38,15 @@ returns c =
     c.in_ok-explanation.ensures
     ∙ ap (λ (xs : List (List ℕ)). explanation_by refusal cause xs c.as_slice-3.result.now) regions
     ∙ ap (λ (xs : List written.Name). explanation_by refusal cause p.regions xs) (c.as_slice-3.ensures ∙ names) in
-    let mends : c.as_slice-4.result.now ≡ mends_of text refusal cause tree p =
-    c.as_slice-4.ensures ∙ c.in_ok-mends.ensures
+    let mends : c.as_slice-5.result.now ≡ mends_of text refusal cause tree p =
+    c.as_slice-5.ensures ∙ c.in_ok-mends.ensures
     ∙ ap (λ (xs : List (List ℕ)). mends_for text refusal.place cause xs c.as_slice-2.result.now) regions
     ∙ ap (λ (xs : List written.Name). mends_for text refusal.place cause p.regions xs) (c.as_slice-2.ensures ∙ names) in
-    let before : IsMeetingTold p cause (caused_explanation refusal cause tree p).remarks told =
-    subst (λ (e : Explanation). IsMeetingTold p cause e.remarks told) is c.in_ok-tell_meeting.ensures in
+    let named : c.as_slice-4.result.now ≡ variables = c.as_slice-4.ensures ∙ names in
+    let at_once : IsMeetingTold p c.as_slice-4.result.now cause (caused_explanation refusal cause tree p).remarks told =
+    subst (λ (e : Explanation). IsMeetingTold p c.as_slice-4.result.now cause e.remarks told) is c.in_ok-tell_meeting.ensures in
+    let before : IsMeetingTold p variables cause (caused_explanation refusal cause tree p).remarks told =
+    subst (λ (xs : List written.Name). IsMeetingTold p xs cause (caused_explanation refusal cause tree p).remarks told) named at_once in
     let tried : AreTried (mends_of text refusal cause tree p) told remarks =
     subst (λ (ms : List Mend). AreTried ms told remarks) mends c.in_ok-try_mends.ensures in
     subst (ExplainDue wanted text)

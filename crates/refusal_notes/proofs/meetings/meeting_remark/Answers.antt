@@ -8,7 +8,7 @@ use Rattle.refusal_notes.proofs.meetings.meeting_remark.Goals as goal
 pub returns-in_ok-text-in-Some : goal.returns-in_ok-text-in-Some
 returns-in_ok-text-in-Some c =
     let First = IsFirstMet c.args.shared c.args.need.now.path c.args.other.now.path c.args.cells.now in
+    let Due = MeetingDue c.args.regions.now c.args.cells.now c.args.variables.now c.args.shared c.args.need.now c.args.other.now in
     let there : IfSome c.in_ok-first_cell.field-0 First = c.in_ok-first_cell.ensures.found in
     let met : First c.in-Some.met = subst (λ (o : Option CellMet). IfSome o First) c.in-Some.is there in
-    subst (λ (text : List ℕ). MeetingDue c.args.regions.now c.args.cells.now c.args.shared c.args.need.now c.args.other.now text)
-    (sym c.in_ok-text-in-Some.ensures) (MeetingDue.at_cell c.in-Some.met met)
+    subst (λ (text : List ℕ). Due text) (sym c.in_ok-text-in-Some.ensures) (MeetingDue.at_cell c.in-Some.met met)
