@@ -12,7 +12,7 @@ mod laws;
 mod news;
 mod order;
 mod paste;
-mod pasting_laws;
+mod pasted_laws;
 mod text;
 mod writable;
 
@@ -20,6 +20,6 @@ pub use fail::PasteFail;
 pub use laws::{lines_can_be_pasted, paths_have_one_order, written_paths_ascend};
 pub use order::paths_of;
 pub use paste::paste_summaries;
-pub use pasting_laws::{pasted_texts_do_not_change, pasted_texts_stay_accepted};
+pub use pasted_laws::{pasted_texts_do_not_change, pasted_texts_stay_accepted};
 pub use text::{push_clauses, push_summary};
 pub use writable::can_be_written;

@@ -1,5 +1,5 @@
 use Rattle.summary_texts.proofs.Accepted.{is-meant, is-accepted}
-use Rattle.summary_texts.proofs.pasting_laws.pasted_texts_stay_accepted.Goals as goal
+use Rattle.summary_texts.proofs.pasted_laws.pasted_texts_stay_accepted.Goals as goal
 
 -- the meaning of the text that was written
 pub returns-clause-meant : goal.returns-clause-meant

@@ -1,5 +1,5 @@
 use Rattle.summary_texts.proofs.Unchanged.{unchanged}
-use Rattle.summary_texts.proofs.pasting_laws.pasted_texts_do_not_change.Goals as goal
+use Rattle.summary_texts.proofs.pasted_laws.pasted_texts_do_not_change.Goals as goal
 
 -- the same bytes are written
 pub returns : goal.returns
