@@ -16,6 +16,7 @@ use Rattle.twe_program.specs.Statement.{Statement, Block, Let, Set, SetCell, Set
 use Rattle.twe_program.specs.Program.{Program, cell_count, size_of}
 use Rattle.twe_program.specs.Fitting.{Scope, HasShape, TakesIndexes, ExpressionFits, ArgumentsFit, StatementFits, StatementsFit, ArmsFit}
 use Rattle.twe_program.specs.WellFormed.{IsWellFormed, MethodFits, DeclFits, scope_of}
+use Rattle.seg_exec.specs.declared.active.ActiveCall.{ActiveCall}
 use Rattle.seg_exec.specs.declared.frame.Position.{Position}
 use Rattle.seg_exec.specs.declared.frame.Frame.{Frame}
 use Rattle.seg_exec.specs.declared.frame.OpenBody.{OpenBody}
@@ -161,16 +162,16 @@ module _ (p : Program) (well : IsWellFormed p) (cells : List ℤ) (enough : leng
   BelowFine below = (scope : Scope) → scope.cells ≡ p.cells → (stmt : Statement) → StatementFits scope stmt → (s : Store) → Fine s → FlowFine (below stmt s)
 
   module _ (below : Below) (fine : BelowFine below) where
-    entered_fine : (full : Bool) (method : ℕ) (args : List ℤ) (place : Place) (s : Store) → Fine s → GivenFine (entered full below (slice_get p.methods method) args place s)
-    entered_fine true method args place s h = h
-    entered_fine false method args place s h =
+    entered_fine : (full : Bool) (method : ℕ) (args : List ℤ) (call : ActiveCall) (s : Store) → Fine s → GivenFine (entered full below (slice_get p.methods method) args call s)
+    entered_fine true method args call s h = h
+    entered_fine false method args call s h =
         let m = method_fits p.methods method well.methods in
         let decl = slice_get p.methods method in
-        let inside : Store = record s { vars = vars_at_start decl args; calls = s.calls + 1 } in
+        let inside : Store = record s { vars = vars_at_start decl args; calls = call ∷ s.calls } in
         back_fine s.vars (below (Block 0 (body_of decl)) inside) (fine m.0 m.1 (Block 0 (body_of decl)) m.2 inside h)
 
     called_fine : (method : ℕ) (args : List ℤ) (place : Place) (s : Store) → Fine s → GivenFine (called below p method args place s)
-    called_fine method args place s h = give_fine (unit_taken place s) _ (unit_fine s.fuel place s h) (λ unit s1 h1. entered_fine (nat_le max_active_calls s1.calls) method args place s1 h1)
+    called_fine method args place s h = give_fine (unit_taken place s) _ (unit_fine s.fuel place s h) (λ unit s1 h1. entered_fine (nat_le max_active_calls (length s1.calls)) method args (record { method = method; place = place }) s1 h1)
 
     module _ (scope : Scope) (of_p : scope.cells ≡ p.cells) where
       takes_of : (cell count : ℕ) → TakesIndexes (slice_get scope.cells cell) count → TakesIndexes (slice_get p.cells cell) count

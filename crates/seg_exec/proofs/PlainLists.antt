@@ -10,7 +10,7 @@ use Rattle.seg_exec.specs.Segment.{Stopped, CarriesOut, IsSegment}
 use Rattle.seg_exec.proofs.steps.Witnesses.{after_length}
 
 -- a list that follows accesses agrees with them, and is what they leave
-list_follows : (old : List ℤ) (accesses : List Access) (new : List ℤ) → Follows ListFollows old accesses new → Agrees old accesses × (new ≡ after old accesses)
+pub list_follows : (old : List ℤ) (accesses : List Access) (new : List ℤ) → Follows ListFollows old accesses new → Agrees old accesses × (new ≡ after old accesses)
 list_follows old [] new h = (tt, h)
 list_follows old (Reads cell value ∷ earlier) new h =
     let before = list_follows old earlier h.0 h.1 in

@@ -24,7 +24,7 @@ use Rattle.seg_exec.proofs.steps.Simulation.{within_meets}
 use Rattle.seg_exec.proofs.steps.Whole.{IsOver, ends_so, once, outcome_of, resumed_meets}
 
 module _ (p : Program) where
-  is_over : (f : Flow) → IsOver p (outcome_of p f)
+  pub is_over : (f : Flow) → IsOver p (outcome_of p f)
   is_over (goes s) = tt
   is_over (returns value s) = tt
   is_over (fails kind place s) = tt

@@ -7,6 +7,7 @@ pub mod Giving
 pub mod Meaning
 pub mod Plain
 pub mod Remaining
+pub mod Scene
 pub mod Segment
 pub mod Store
 pub mod inner

@@ -1,5 +1,5 @@
 -- What expressions and statements do. Operands and arguments are evaluated from the left.
-use Rattle.std.specs.Prelude.{ℕ, zero, suc, ◌+◌, ◌-◌, ℤ, pos, Bool, true, false, List, [], ◌∷◌, ◌++◌, length, replicate, Option, None, Some, nat_le, slice_get}
+use Rattle.std.specs.Prelude.{ℕ, zero, suc, ◌+◌, ◌-◌, ℤ, pos, Bool, true, false, List, [], ◌∷◌, ◌++◌, drop, length, replicate, Option, None, Some, nat_le, slice_get}
 use Rattle.twe_base.specs.declared.place.Place.{Place}
 use Rattle.twe_base.specs.Language.{max_active_calls}
 use Rattle.twe_base.specs.declared.fault.FaultKind.TheVariants.{DivZero, Index, Depth}
@@ -9,6 +9,7 @@ use Rattle.twe_program.specs.Program.{Program}
 use Rattle.twe_program.specs.Expression.{Expression, Literal, Truth, Variable, CellValue, ArrayElement, GridElement, CallValue, Negative, Negation, Binary, Arguments, argument}
 use Rattle.twe_program.specs.Expression as args
 use Rattle.twe_program.specs.Statement.{Statement, Block, Let, Set, SetCell, SetArray, SetGrid, If, While, Return, Print, Call, Make, Wait, Statements, no_more, statement, Arms, arm, otherwise, no_else}
+use Rattle.seg_exec.specs.declared.active.ActiveCall.{ActiveCall}
 use Rattle.seg_exec.specs.declared.operation.Operation.TheVariants as operations
 use Rattle.seg_exec.specs.Arithmetic.{number_of, is_true, operated, decided, negative, negation}
 use Rattle.seg_exec.specs.Cells.{cell_number, element_number, grid_element_number}
@@ -53,9 +54,9 @@ var_count_of (Some decl) = decl.body.vars
 abbrev pub vars_at_start : Option Decl → List ℤ → List ℤ
 vars_at_start decl args = args ++ replicate (var_count_of decl - length args) (pos 0)
 
--- the store after a call: the variables are the caller's again, and one call fewer is active
+-- the store after a call: the variables are the caller's again, and the latest active call is active no more
 abbrev pub left_with : List ℤ → Store → Store
-left_with vars s = record s { vars = vars; calls = s.calls - 1 }
+left_with vars s = record s { vars = vars; calls = drop 1 s.calls }
 
 -- the value of a call: the one that the body returns, or 0 if it ends without a return. A method has no task operations;
 -- one would end it with 0.
@@ -66,16 +67,17 @@ given_back vars (fails kind place s) = faults kind place s
 given_back vars (stops operation positions s) = gives (pos 0) (left_with vars s)
 
 -- a method is executed, unless too many calls are active already
-abbrev pub entered : Bool → Below → Option Decl → List ℤ → Place → Store → Given ℤ
-entered true below decl args place s = faults Depth place s
-entered false below decl args place s =
-    given_back s.vars (below (Block 0 (body_of decl)) (record s { vars = vars_at_start decl args; calls = s.calls + 1 }))
+abbrev pub entered : Bool → Below → Option Decl → List ℤ → ActiveCall → Store → Given ℤ
+entered true below decl args call s = faults Depth call.place s
+entered false below decl args call s =
+    given_back s.vars (below (Block 0 (body_of decl)) (record s { vars = vars_at_start decl args; calls = call ∷ s.calls }))
 
 -- the call of a method takes a unit of fuel
 abbrev pub called : Below → Program → ℕ → List ℤ → Place → Store → Given ℤ
 called below p method args place s =
     then_give (unit_taken place s) (λ unit s1.
-    entered (nat_le max_active_calls s1.calls) below (slice_get p.methods method) args place s1)
+    entered (nat_le max_active_calls (length s1.calls)) below (slice_get p.methods method) args
+    (record { method = method; place = place }) s1)
 
 -- what expressions and lists of arguments give
 abbrev mutual

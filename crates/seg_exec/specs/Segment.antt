@@ -117,7 +117,7 @@ stopped_by p frame (stops operation positions s) = record {
 
 -- the store at the start of a segment
 abbrev pub store_at : Frame → List ℤ → List ℤ → Store
-store_at frame vars cells = record { cells = cells; vars = vars; fuel = frame.fuel; calls = 0; accesses = [] }
+store_at frame vars cells = record { cells = cells; vars = vars; fuel = frame.fuel; calls = []; accesses = [] }
 
 -- how the rest of a frame ends: the rest of the body, or, if the body has ended, at once with its value
 abbrev pub flow_of : Program → Frame → Option OpenBody → List ℤ → Flow

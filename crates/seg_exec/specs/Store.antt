@@ -3,17 +3,18 @@ use Rattle.std.specs.Prelude.{ℕ, zero, suc, ℤ, List, ◌∷◌, slice_get, s
 use Rattle.twe_base.specs.declared.place.Place.{Place}
 use Rattle.twe_base.specs.declared.fault.FaultKind.{FaultKind}
 use Rattle.twe_base.specs.declared.fault.FaultKind.TheVariants.{Fuel}
+use Rattle.seg_exec.specs.declared.active.ActiveCall.{ActiveCall}
 use Rattle.seg_exec.specs.declared.frame.Position.{Position}
 use Rattle.seg_exec.specs.declared.operation.Operation.{Operation}
 use Rattle.seg_exec.specs.Access.{Access, Reads, Writes, Prints, value_in}
 
--- the cells of the program, the parameters and locals of the active body, the fuel that is left, the number of active
--- method calls, and the accesses of the segment so far, the latest first
+-- the cells of the program, the parameters and locals of the active body, the fuel that is left, the active method calls
+-- and the accesses of the segment so far, both the latest first
 pub record Store : Type 0 where
   pub cells : List ℤ
   pub vars : List ℤ
   pub fuel : ℕ
-  pub calls : ℕ
+  pub calls : List ActiveCall
   pub accesses : List Access
 
 -- how an expression ends: with a value, or with a fault at a place of the text

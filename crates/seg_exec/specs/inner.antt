@@ -1,3 +1,4 @@
+pub mod Faulting
 pub mod Finished
 pub mod steps
 pub mod strides

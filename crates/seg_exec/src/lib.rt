@@ -6,6 +6,7 @@
 //! it recurse deeply. The crate does not say what a stop does to the state of a run.
 #![tactic(auto)]
 
+mod active;
 mod arithmetic;
 mod body;
 mod cells;
@@ -16,11 +17,13 @@ mod frame;
 mod give;
 mod laws;
 mod operation;
+mod scene;
 mod segment;
 mod steps;
 mod stop;
 mod strides;
 
+pub use active::ActiveCall;
 pub use cells::Cells;
 pub use children::Children;
 pub use entry::{effects_at, entry_frame};
@@ -30,5 +33,6 @@ pub use laws::{
     larger_bounds_change_nothing, over_a_list_it_is_the_segment,
 };
 pub use operation::Operation;
+pub use scene::{FaultScene, fault_scene};
 pub use segment::{run_segment, run_segment_over_list};
 pub use stop::Stop;

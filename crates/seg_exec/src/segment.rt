@@ -153,7 +153,11 @@ fn finish(
 }
 
 /// The evaluator with what remains of the body of a frame; none if the body has ended.
-fn machine_at<'a>(alloc: Global, p: &'a Prog, frame: &Frame) -> Result<Option<Machine<'a>>, Memory>
+pub(crate) fn machine_at<'a>(
+    alloc: Global,
+    p: &'a Prog,
+    frame: &Frame,
+) -> Result<Option<Machine<'a>>, Memory>
     ensures { IfOk result (λ machine. option_map config_of machine ≡ config_at p.now frame.now frame.now.body) }
 {
     let Some(body) = &frame.body else {
@@ -164,7 +168,7 @@ fn machine_at<'a>(alloc: Global, p: &'a Prog, frame: &Frame) -> Result<Option<Ma
         operands: Pushdown::new(alloc),
         vars: Variables::new(body.vars.copy(alloc)?),
         fuel: frame.fuel,
-        calls: 0,
+        calls: Pushdown::new(alloc),
         open: OpenBlock {
             block: 0,
             at: 0,

@@ -1,7 +1,7 @@
 -- Expressions access only what their declaration declares, and leave its variables as they are.
 use Rattle.seg_exec.specs.Entry.{effects_at}
 use Rattle.effect_sets.specs.declared.effects.Summary.{Summary}
-use Rattle.std.proofs.Common.{◌≡◌, ℕ, zero, suc, ◌+◌, ℤ, Bool, true, false, IsTrue, List, [], ◌∷◌, length, take, Option, None, Some, refl, sym, ap, subst, arith, Contains}
+use Rattle.std.proofs.Common.{◌≡◌, ℕ, zero, suc, ℤ, Bool, true, false, IsTrue, List, [], ◌∷◌, length, take, Option, None, Some, refl, sym, ap, subst, arith, Contains}
 use Rattle.std.specs.Prelude.{nat_le, slice_get}
 use Rattle.std.specs.List.{AllByRecursion}
 use Rattle.std.proofs.lemmas.Bool.{and_from}
@@ -28,6 +28,7 @@ use Rattle.twe_program.specs.Fitting.{TakesArguments, count_of, ExpressionFits, 
 use Rattle.twe_program.specs.WellFormed.{IsWellFormed, SummaryFits, scope_of}
 use Rattle.seg_exec.specs.declared.operation.Operation.{Operation}
 use Rattle.seg_exec.specs.declared.operation.Operation.TheVariants as operations
+use Rattle.seg_exec.specs.declared.active.ActiveCall.{ActiveCall}
 use Rattle.seg_exec.specs.Access.{Access, value_in}
 use Rattle.seg_exec.specs.Arithmetic.{is_true, operated, decided}
 use Rattle.seg_exec.specs.Cells.{element_number, grid_element_number}
@@ -166,13 +167,13 @@ module _ (p : Program) (wf : IsWellFormed p) (methods : (i : ℕ) (decl : Decl) 
   entered_kept : (method : ℕ) (written : List Elem) (values : List ℤ) → ArgumentsStand now written values
       → (full : Bool) (o : Option Decl) → slice_get p.methods method ≡ o → TakesArguments o (length values)
       → ((e : Effect) → IsIn e (filled_summary o written).effects → IsTrue (covers decl.summary e))
-      → (place : Place) (s : Store) → s.vars ≡ vars → Each p es s.accesses → GivenKeeps p es vars AnyValue (entered full below o values place s)
-  entered_kept method written values stand true o found takes covered place s same each = each
-  entered_kept method written values stand false None found takes covered place s same each = absurd takes
-  entered_kept method written values stand false (Some callee) found takes covered place s same each =
+      → (call : ActiveCall) (s : Store) → s.vars ≡ vars → Each p es s.accesses → GivenKeeps p es vars AnyValue (entered full below o values call s)
+  entered_kept method written values stand true o found takes covered call s same each = each
+  entered_kept method written values stand false None found takes covered call s same each = absurd takes
+  entered_kept method written values stand false (Some callee) found takes covered call s same each =
       let callee_sound = methods method callee found in
       let declared : DeclaredIn p callee values es = filled_within callee.summary written values stand covered in
-      let start : Store = record s { vars = vars_at_start (Some callee) values; calls = s.calls + 1 } in
+      let start : Store = record s { vars = vars_at_start (Some callee) values; calls = call ∷ s.calls } in
       let body : Fine p callee (Block 0 callee.body.block) = record { declares = callee_sound.body.declares; fits = callee_sound.body.fits; assigns = callee_sound.body.assigns } in
       let kept : Kept p es values start = record { each = each; begins = take-append_seam values _ } in
       given_back_kept p callee es values vars s.vars _ same (keeps callee callee_sound values takes es declared (Block 0 callee.body.block) body start kept)
@@ -183,7 +184,7 @@ module _ (p : Program) (wf : IsWellFormed p) (methods : (i : ℕ) (decl : Decl) 
       → (place : Place) (s : Store) → s.vars ≡ vars → Each p es s.accesses → GivenKeeps p es vars AnyValue (called below p method values place s)
   called_kept method written values stand takes covered place s same each =
       give_kept p es vars AnyValue AnyValue (unit_taken place s) _ (unit_kept p es vars place s same each)
-      (λ unit s1 same1 each1 q. entered_kept method written values stand (nat_le max_active_calls s1.calls) (slice_get p.methods method) refl takes covered place s1 same1 each1)
+      (λ unit s1 same1 each1 q. entered_kept method written values stand (nat_le max_active_calls (length s1.calls)) (slice_get p.methods method) refl takes covered (record { method = method; place = place }) s1 same1 each1)
 
   mutual
     pub value_kept : (point : ℕ) (e : Expression) → AllDeclared p decl (acts_of p point e) → ExpressionFits (scope_of p decl) e

@@ -1,5 +1,5 @@
 -- A method call spares the effects of a task if each effect that the method declares for these arguments does.
-use Rattle.std.proofs.Common.{◌≡◌, ◌+◌, ℕ, zero, suc, ℤ, Bool, true, false, List, [], ◌∷◌, ◌++◌, length, map, Option, None, Some, inl, inr, refl, subst}
+use Rattle.std.proofs.Common.{◌≡◌, ℕ, zero, suc, ℤ, Bool, true, false, List, [], ◌∷◌, ◌++◌, length, map, Option, None, Some, inl, inr, refl, subst}
 use Rattle.std.specs.Prelude.{nat_le, slice_get}
 use Rattle.std.specs.List.{AllByRecursion}
 use Rattle.std.proofs.Math.Seq.{take-append_seam}
@@ -17,6 +17,7 @@ use Rattle.twe_program.specs.Fitting.{TakesArguments}
 use Rattle.twe_program.specs.Program.{Program}
 use Rattle.twe_program.specs.Statement.{Block}
 use Rattle.twe_program.specs.WellFormed.{IsWellFormed}
+use Rattle.seg_exec.specs.declared.active.ActiveCall.{ActiveCall}
 use Rattle.seg_exec.specs.Access.{Access}
 use Rattle.seg_exec.specs.Meaning.{Below, called, entered, given_back, vars_at_start}
 use Rattle.seg_exec.specs.Store.{Store, Given, gives, faults, Flow, goes, returns, fails, stops, then_give, unit_of, unit_taken}
@@ -114,12 +115,12 @@ module _ (p : Program) (wf : IsWellFormed p) (effects : KeepsEffects p) (below :
   entered_spares : (method : ℕ) (written : List Elem) (values vars : List ℤ) → ArgumentsStand (values_now vars) written values
       → (full : Bool) (o : Option Decl) → slice_get p.methods method ≡ o → TakesArguments o (length values)
       → ((e : Effect) → IsIn e (filled_summary o written).effects → EffectSpares es e)
-      → (place : Place) (s : Store) → s.vars ≡ vars → EachSpares p es s.accesses → GivenSpares p es vars AnyValue (entered full below o values place s)
-  entered_spares method written values vars stand true o found takes spare place s same each = each
-  entered_spares method written values vars stand false None found takes spare place s same each = absurd takes
-  entered_spares method written values vars stand false (Some callee) found takes spare place s same each =
+      → (call : ActiveCall) (s : Store) → s.vars ≡ vars → EachSpares p es s.accesses → GivenSpares p es vars AnyValue (entered full below o values call s)
+  entered_spares method written values vars stand true o found takes spare call s same each = each
+  entered_spares method written values vars stand false None found takes spare call s same each = absurd takes
+  entered_spares method written values vars stand false (Some callee) found takes spare call s same each =
       let sound = method_sound p wf effects method callee found in
-      let start : Store = record s { vars = vars_at_start (Some callee) values; calls = s.calls + 1 } in
+      let start : Store = record s { vars = vars_at_start (Some callee) values; calls = call ∷ s.calls } in
       let all = map (λ (a : Access). exact (access_of p a)) s.accesses ++ (fill_summary (literals values) callee.summary).effects in
       let body : Fine p callee (Block 0 callee.body.block) = record { declares = sound.body.declares; fits = sound.body.fits; assigns = sound.body.assigns } in
       let kept : Kept p all values start = record {
@@ -136,4 +137,4 @@ module _ (p : Program) (wf : IsWellFormed p) (effects : KeepsEffects p) (below :
       → (place : Place) (s : Store) → s.vars ≡ vars → EachSpares p es s.accesses → GivenSpares p es vars AnyValue (called below p method values place s)
   called_spares method written values vars stand takes spare place s same each =
       give_spares p es vars AnyValue AnyValue (unit_taken place s) _ (unit_spares p es vars place s same each)
-      (λ unit s1 same1 each1 q. entered_spares method written values vars stand (nat_le max_active_calls s1.calls) (slice_get p.methods method) refl takes spare place s1 same1 each1)
+      (λ unit s1 same1 each1 q. entered_spares method written values vars stand (nat_le max_active_calls (length s1.calls)) (slice_get p.methods method) refl takes spare (record { method = method; place = place }) s1 same1 each1)

@@ -1,7 +1,7 @@
 -- Each step takes a unit of fuel or leaves less work.
 use Rattle.std.proofs.Common.{◌≡◌, ℕ, ◌+◌, ◌-◌, ◌<◌, ◌≤◌, ℤ, Bool, true, false, cond, List, [], ◌∷◌, Option, None, Some, refl, sym, ap, ◌∙◌, subst, arith}
 use Rattle.std.proofs.lemmas.Bool.{eqb-false, eqb-true, eq-eqb}
-use Rattle.std.specs.Prelude.{nat_eq, nat_le, slice_get}
+use Rattle.std.specs.Prelude.{length, nat_eq, nat_le, slice_get}
 use Rattle.twe_base.specs.declared.place.Place.{Place}
 use Rattle.twe_ast.specs.declared.expr.BinOp.{BinOp}
 use Rattle.twe_base.specs.Language.{max_active_calls}
@@ -10,6 +10,7 @@ use Rattle.twe_program.specs.Program.{Program}
 use Rattle.twe_program.specs.Expression.{Expression, Literal, Truth, Variable, CellValue, ArrayElement, GridElement, CallValue, Negative, Negation, Binary, Arguments, argument}
 use Rattle.twe_program.specs.Expression as exprs
 use Rattle.twe_program.specs.Statement.{Statement, Block, Let, Set, SetCell, SetArray, SetGrid, If, While, Return, Print, Call, Make, Wait, Statements, no_more, statement, Arms, arm, otherwise, no_else}
+use Rattle.seg_exec.specs.declared.active.ActiveCall.{ActiveCall}
 use Rattle.seg_exec.specs.declared.frame.Position.{Position}
 use Rattle.seg_exec.specs.declared.operation.Operation.{Operation}
 use Rattle.seg_exec.specs.declared.steps.request.Request.{Request}
@@ -103,13 +104,13 @@ turned_falls : (yes : Bool) (again : Statement) (body : Statements) (place : Pla
 turned_falls true again body place c = unit_falls _ place c _ (λ left h. h)
 turned_falls false again body place c = (omega arith, λ e. omega arith)
 
-entered_falls : (fuel : ℕ) (full : Bool) (decl : Option Decl) (args : List ℤ) (place : Place) (c : Config) → c.fuel < fuel → TakesIn fuel (entered_by full decl args place c).0 (entered_by full decl args place c).1
-entered_falls fuel true decl args place c h = tt
-entered_falls fuel false decl args place c h = h
+entered_falls : (fuel : ℕ) (full : Bool) (decl : Option Decl) (args : List ℤ) (call : ActiveCall) (c : Config) → c.fuel < fuel → TakesIn fuel (entered_by full decl args call c).0 (entered_by full decl args call c).1
+entered_falls fuel true decl args call c h = tt
+entered_falls fuel false decl args call c h = h
 
 gathered_falls : (p : Program) (args : List ℤ) (goal : Goal) (size : ℕ) (c : Config) → Falls c.fuel size (gathered p args goal c)
 gathered_falls p args (goals.Enter method place) size c =
-    unit_falls size place c _ (λ left h. entered_falls c.fuel (nat_le max_active_calls c.calls) (slice_get p.methods method) args place (record c { fuel = left }) h)
+    unit_falls size place c _ (λ left h. entered_falls c.fuel (nat_le max_active_calls (length c.calls)) (slice_get p.methods method) args (record { method = method; place = place }) (record c { fuel = left }) h)
 gathered_falls p args (goals.Make future task spawned place) size c = unit_falls size place c _ (λ left h. h)
 
 gathering_falls : (p : Program) (taken : List ℤ) (args : Arguments) (goal : Goal) (c : Config) → Falls c.fuel (size_of_arguments args + 1 + size_of_work c.work) (gathering p taken args goal c)

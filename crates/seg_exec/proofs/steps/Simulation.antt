@@ -1,6 +1,6 @@
 -- The evaluator comes from the work for an expression, or for a statement, to what its meaning says.
 use Rattle.std.proofs.Common.{◌≡◌, ℕ, zero, suc, ◌+◌, ◌-◌, ◌<◌, ◌≤◌, ℤ, Bool, true, false, List, [], ◌∷◌, ◌++◌, Option, None, Some, refl, sym, ap, ◌∙◌, arith, append_assoc}
-use Rattle.std.specs.Prelude.{nat_le, slice_get}
+use Rattle.std.specs.Prelude.{length, nat_le, slice_get}
 use Rattle.std.proofs.lemmas.List.{append-nil}
 use Rattle.std.proofs.Math.Dec.{eqb-suc-zero}
 use Rattle.twe_base.specs.declared.place.Place.{Place}
@@ -11,6 +11,7 @@ use Rattle.twe_program.specs.Program.{Program}
 use Rattle.twe_program.specs.Expression.{Expression, Literal, Truth, Variable, CellValue, ArrayElement, GridElement, CallValue, Negative, Negation, Binary, Arguments, argument}
 use Rattle.twe_program.specs.Expression as exprs
 use Rattle.twe_program.specs.Statement.{Statement, Block, Let, Set, SetCell, SetArray, SetGrid, If, While, Return, Print, Call, Make, Wait, Statements, no_more, statement, Arms, arm, otherwise, no_else}
+use Rattle.seg_exec.specs.declared.active.ActiveCall.{ActiveCall}
 use Rattle.seg_exec.specs.declared.operation.Operation.TheVariants as operations
 use Rattle.seg_exec.specs.declared.steps.continuation.Goal.{Goal}
 use Rattle.seg_exec.specs.declared.steps.continuation.Goal.TheVariants as goals
@@ -130,7 +131,7 @@ module _ (p : Program) where
   applied_meets bound from place work values s (Some value) h e = (h, one from _ e)
 
   -- a unit of fuel: none is left, or one less is
-  unit_given : {A : Type 0} (fuel bound : ℕ) (cells vars : List ℤ) (calls : ℕ) (accesses : List Access) (from : Moment) (place : Place)
+  unit_given : {A : Type 0} (fuel bound : ℕ) (cells vars : List ℤ) (calls : List ActiveCall) (accesses : List Access) (from : Moment) (place : Place)
       (work : List Continuation) (values : List ℤ) (step : Config → Step) (to : A → Store → Moment) (next : Unit {0} → Store → Given A)
       → let s : Store = record { cells = cells; vars = vars; fuel = fuel; calls = calls; accesses = accesses } in
       ((k : ℕ) → run p (suc k) from ≡ stepped (run p k) (asked_unit place (moment work values s).config step) (moment work values s))
@@ -145,7 +146,7 @@ module _ (p : Program) where
       k left refl (λ n. e n ∙ ap (λ (none : Bool). stepped (run p n) (unit_or none place (moment work values (s (suc left))).config step) (moment work values (s (suc left)))) (eqb-suc-zero left)
       ∙ ap (λ (fuel : ℕ). stepped (run p n) (step (moment work values (s fuel)).config) (moment work values (s fuel))) same)
 
-  unit_done : (fuel bound : ℕ) (cells vars : List ℤ) (calls : ℕ) (accesses : List Access) (from : Moment) (place : Place)
+  unit_done : (fuel bound : ℕ) (cells vars : List ℤ) (calls : List ActiveCall) (accesses : List Access) (from : Moment) (place : Place)
       (work : List Continuation) (values : List ℤ) (step : Config → Step) (work' : List Continuation) (values' : List ℤ) (next : Unit {0} → Store → Flow)
       → let s : Store = record { cells = cells; vars = vars; fuel = fuel; calls = calls; accesses = accesses } in
       ((k : ℕ) → run p (suc k) from ≡ stepped (run p k) (asked_unit place (moment work values s).config step) (moment work values s))
@@ -181,13 +182,13 @@ module _ (p : Program) where
   Meets n below = MeetsStatements n below × MeetsBodies n below
 
   module _ (n : ℕ) (below : Below) (meets : Meets n below) where
-    entered_meets : (full : Bool) (decl : Option Decl) (vs : List ℤ) (place : Place) (from : Moment) (left bound : ℕ) (work : List Continuation) (values : List ℤ) (s : Store)
+    entered_meets : (full : Bool) (decl : Option Decl) (vs : List ℤ) (call : ActiveCall) (from : Moment) (left bound : ℕ) (work : List Continuation) (values : List ℤ) (s : Store)
         → s.fuel ≤ left → left < n → left ≤ bound
-        → ((k : ℕ) → run p (suc k) from ≡ stepped (run p k) (entered_by full decl vs place (moment work values s).config) (moment work values s))
-        → GivenTo bound from (λ v s1. moment work (v ∷ values) s1) (entered full below decl vs place s)
-    entered_meets true decl vs place from left bound work values s h lt le e = last_one from _ s e
-    entered_meets false decl vs place from left bound work values s h lt le e =
-        let inside : Store = record s { vars = vars_at_start decl vs; calls = s.calls + 1 } in
+        → ((k : ℕ) → run p (suc k) from ≡ stepped (run p k) (entered_by full decl vs call (moment work values s).config) (moment work values s))
+        → GivenTo bound from (λ v s1. moment work (v ∷ values) s1) (entered full below decl vs call s)
+    entered_meets true decl vs call from left bound work values s h lt le e = last_one from _ s e
+    entered_meets false decl vs call from left bound work values s h lt le e =
+        let inside : Store = record s { vars = vars_at_start decl vs; calls = call ∷ s.calls } in
         let body = body_of decl in
         given_later bound from (moment (Rest 0 0 body ∷ (Leave s.vars ∷ work)) values inside) (λ v s1. moment work (v ∷ values) s1) _ (one from _ e)
         (back_meets left bound _ s.vars work values (below (Block 0 body) inside) le
@@ -197,9 +198,9 @@ module _ (p : Program) where
         → GivenTo bound (moment (Gather vs exprs.no_more (goals.Enter method place) ∷ work) values s) (λ v s1. moment work (v ∷ values) s1) (called below p method vs place s)
     called_meets method vs place bound work values s le h =
         unit_given s.fuel bound s.cells s.vars s.calls s.accesses (moment (Gather vs exprs.no_more (goals.Enter method place) ∷ work) values s) place work values
-        (λ c. entered_by (nat_le max_active_calls c.calls) (slice_get p.methods method) vs place c) (λ v s1. moment work (v ∷ values) s1)
-        (λ unit s1. entered (nat_le max_active_calls s1.calls) below (slice_get p.methods method) vs place s1) (λ k. refl)
-        (λ left is e. entered_meets (nat_le max_active_calls s.calls) (slice_get p.methods method) vs place _ left bound work values (record s { fuel = left })
+        (λ c. entered_by (nat_le max_active_calls (length c.calls)) (slice_get p.methods method) vs (record { method = method; place = place }) c) (λ v s1. moment work (v ∷ values) s1)
+        (λ unit s1. entered (nat_le max_active_calls (length s1.calls)) below (slice_get p.methods method) vs (record { method = method; place = place }) s1) (λ k. refl)
+        (λ left is e. entered_meets (nat_le max_active_calls (length s.calls)) (slice_get p.methods method) vs (record { method = method; place = place }) _ left bound work values (record s { fuel = left })
         (omega arith) (omega (arith, is)) (omega (arith, is)) e)
 
     right_meets : (d : Option ℤ) (op : BinOp) (x : ℤ) (right : Expression) (place : Place) (from : Moment) (bound : ℕ) (work : List Continuation) (values : List ℤ) (s : Store) → s.fuel ≤ bound

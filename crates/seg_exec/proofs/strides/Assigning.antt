@@ -6,6 +6,7 @@ use Rattle.twe_base.specs.declared.fault.FaultKind.TheVariants.{Index}
 use Rattle.twe_program.specs.Program.{Program}
 use Rattle.twe_program.specs.Expression.{Expression}
 use Rattle.twe_program.specs.Statement.{Statement}
+use Rattle.seg_exec.specs.declared.active.ActiveCall.{ActiveCall}
 use Rattle.seg_exec.specs.declared.strides.assign.Carried.{Carried}
 use Rattle.seg_exec.specs.declared.strides.assign.Carried.TheVariants.{Done, Faulted, Left}
 use Rattle.seg_exec.specs.declared.strides.value.Fault.{Fault}
@@ -93,7 +94,7 @@ module _ {C : Type 0} (p : Program) (ways : Ways C) where
         (then_ends p ways _ _ _ _ (h (Evaluate value ∷ (GiveElement array place ∷ work)) operands fuel calls prints) (g (GiveElement array place ∷ work) (i ∷ operands) fuel calls prints))
 
     both : (vars : List ℤ) (old mid next : C) (i v : ℤ) → EvaluatesTo p ways index vars old (Ok i) mid → EvaluatesTo p ways value vars mid (Ok v) next
-        → (work : List Continuation) (operands : List ℤ) (fuel calls : ℕ) (prints : List ℤ)
+        → (work : List Continuation) (operands : List ℤ) (fuel : ℕ) (calls : List ActiveCall) (prints : List ℤ)
         → Goes p ways (stand (to_element index value array place work) operands vars fuel calls old prints) (stand (GiveElement array place ∷ work) (v ∷ (i ∷ operands)) vars fuel calls next prints)
     both vars old mid next i v h g work operands fuel calls prints =
         then_goes p ways _ _ _ (h (Evaluate value ∷ (GiveElement array place ∷ work)) operands fuel calls prints) (g (GiveElement array place ∷ work) (i ∷ operands) fuel calls prints)
@@ -106,7 +107,7 @@ module _ {C : Type 0} (p : Program) (ways : Ways C) where
         (may_then p ways _ _ m.may (both vars old mid next i v h g m.work m.operands m.fuel m.calls m.prints)))
 
     element_by : (cell : Option ℕ) (vars : List ℤ) (old mid next new : C) (i v : ℤ) (result : Carried) → EvaluatesTo p ways index vars old (Ok i) mid → EvaluatesTo p ways value vars mid (Ok v) next
-        → ((work : List Continuation) (operands : List ℤ) (fuel calls : ℕ)
+        → ((work : List Continuation) (operands : List ℤ) (fuel : ℕ) (calls : List ActiveCall)
         → step_of p (record { work = GiveElement array place ∷ work; operands = v ∷ (i ∷ operands); vars = vars; fuel = fuel; calls = calls })
         ≡ written_at cell v place (record { work = work; operands = operands; vars = vars; fuel = fuel; calls = calls }))
         → WritesAt ways cell v place next result new → Does p ways (to_element index value array place) vars old result vars new
@@ -132,7 +133,7 @@ module _ {C : Type 0} (p : Program) (ways : Ways C) where
   module _ (s : Statement) (tasks : List Continuation → List Continuation) where
     first_step : (vars : List ℤ) (cells : C)
         → ((c : Config) → executed s c ≡ on (record c { work = tasks c.work }))
-        → (work : List Continuation) (operands : List ℤ) (fuel calls : ℕ) (prints : List ℤ)
+        → (work : List Continuation) (operands : List ℤ) (fuel : ℕ) (calls : List ActiveCall) (prints : List ℤ)
         → Goes p ways (stand (executing s work) operands vars fuel calls cells prints) (stand (tasks work) operands vars fuel calls cells prints)
     first_step vars cells is work operands fuel calls prints =
         silent p ways (stand (executing s work) operands vars fuel calls cells prints) _ (is (record { work = work; operands = operands; vars = vars; fuel = fuel; calls = calls }))

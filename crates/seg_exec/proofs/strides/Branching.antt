@@ -5,6 +5,7 @@ use Rattle.twe_program.specs.declared.stmt.Arm.{Arm}
 use Rattle.twe_program.specs.Program.{Program}
 use Rattle.twe_program.specs.Statement.{Statements}
 use Rattle.twe_program.specs.inner.StatementView.{arms_of}
+use Rattle.seg_exec.specs.declared.active.ActiveCall.{ActiveCall}
 use Rattle.seg_exec.specs.declared.steps.request.Ending.{Ending}
 use Rattle.seg_exec.specs.declared.strides.pick.Picked.{Picked}
 use Rattle.seg_exec.specs.declared.strides.value.Fault.{Fault}
@@ -33,7 +34,7 @@ module _ {C : Type 0} (p : Program) (ways : Ways C) (arms : List Arm) (last : Op
 
   module _ (config : Config) (old new : C) (prints : List ℤ) where
     pub fault_picked : (fault : Fault) (ending : Ending) → ending ≡ fault_ending fault
-        → ((work : List Continuation) (operands : List ℤ) (fuel calls : ℕ) (prints : List ℤ)
+        → ((work : List Continuation) (operands : List ℤ) (fuel : ℕ) (calls : List ActiveCall) (prints : List ℤ)
         → Ends p ways (stand (choosing_first arms last work) operands config.vars fuel calls old prints) (fault_ending fault) (stand work operands config.vars fuel calls new prints))
         → Ends p ways (before config old prints) ending (placed config new prints)
     fault_picked fault ending is h =
@@ -41,13 +42,13 @@ module _ {C : Type 0} (p : Program) (ways : Ways C) (arms : List Arm) (last : Op
         (ends_alike p ways (before config old prints) (fault_ending fault) (rest ∷ config.work) config.work config.operands config.operands config.vars config.fuel config.calls new prints
         (h (rest ∷ config.work) config.operands config.fuel config.calls prints))
 
-    pub nothing_picked : ((work : List Continuation) (operands : List ℤ) (fuel calls : ℕ) (prints : List ℤ)
+    pub nothing_picked : ((work : List Continuation) (operands : List ℤ) (fuel : ℕ) (calls : List ActiveCall) (prints : List ℤ)
         → Goes p ways (stand (choosing_first arms last work) operands config.vars fuel calls old prints) (stand work operands config.vars fuel calls new prints))
         → Goes p ways (before config old prints) (doing rest (placed config new prints))
     nothing_picked h = h (rest ∷ config.work) config.operands config.fuel config.calls prints
 
     pub body_picked : (number : ℕ) (body : Statements) (mid : Config) → mid ≡ to_do rest config
-        → ((work : List Continuation) (operands : List ℤ) (fuel calls : ℕ) (prints : List ℤ)
+        → ((work : List Continuation) (operands : List ℤ) (fuel : ℕ) (calls : List ActiveCall) (prints : List ℤ)
         → Goes p ways (stand (choosing_first arms last work) operands config.vars fuel calls old prints) (stand (Rest number 0 body ∷ work) operands config.vars fuel calls new prints))
         → Goes p ways (before config old prints) (doing (Rest number 0 body) (placed mid new prints))
     body_picked number body mid is h =

@@ -6,6 +6,7 @@ use Rattle.twe_base.specs.declared.fault.FaultKind.TheVariants.{Index}
 use Rattle.twe_ast.specs.declared.expr.BinOp.{BinOp}
 use Rattle.twe_program.specs.Program.{Program}
 use Rattle.twe_program.specs.Expression.{Expression, Literal, Truth, Variable, CellValue, ArrayElement, GridElement, CallValue, Negative, Negation, Binary}
+use Rattle.seg_exec.specs.declared.active.ActiveCall.{ActiveCall}
 use Rattle.seg_exec.specs.declared.strides.value.Fault.{Fault}
 use Rattle.seg_exec.specs.Access.{HasRead, Ways, value_in}
 use Rattle.seg_exec.specs.Arithmetic.{decided, is_true, negation, negative, number_of, operated}
@@ -51,13 +52,13 @@ module _ {C : Type 0} (p : Program) (ways : Ways C) (vars : List ℤ) where
   leaf (Binary op left right place) value cells is = absurd (cc)
 
   -- what comes after some steps
-  gives_after : (from mid : Standing C) (work : List Continuation) (operands : List ℤ) (fuel calls : ℕ) (prints : List ℤ) (result : Result ℤ Fault) (new : C)
+  gives_after : (from mid : Standing C) (work : List Continuation) (operands : List ℤ) (fuel : ℕ) (calls : List ActiveCall) (prints : List ℤ) (result : Result ℤ Fault) (new : C)
       → Goes p ways from mid → Gives p ways mid work operands vars fuel calls prints result new → Gives p ways from work operands vars fuel calls prints result new
   gives_after from mid work operands fuel calls prints (Ok value) new first second = then_goes p ways from mid _ first second
   gives_after from mid work operands fuel calls prints (Err fault) new first second = then_ends p ways from mid _ _ first second
 
   -- the step that reads an element
-  gives_read : (cell : Option ℕ) (place : Place) (from : Config) (work : List Continuation) (operands : List ℤ) (fuel calls : ℕ) (prints : List ℤ) (old new : C) (result : Result ℤ Fault)
+  gives_read : (cell : Option ℕ) (place : Place) (from : Config) (work : List Continuation) (operands : List ℤ) (fuel : ℕ) (calls : List ActiveCall) (prints : List ℤ) (old new : C) (result : Result ℤ Fault)
       → step_of p from ≡ read_at cell place (record { work = work; operands = operands; vars = vars; fuel = fuel; calls = calls })
       → ReadsAt ways cell place old result new → Gives p ways (record { config = from; cells = old; prints = prints }) work operands vars fuel calls prints result new
   gives_read None place from work operands fuel calls prints old new result is h =
@@ -76,7 +77,7 @@ module _ {C : Type 0} (p : Program) (ways : Ways C) (vars : List ℤ) where
 
   -- an element of an array
   module _ (array : ℕ) (index : Expression) (place : Place) where
-    first_of_element : (work : List Continuation) (operands : List ℤ) (fuel calls : ℕ) (cells : C) (prints : List ℤ)
+    first_of_element : (work : List Continuation) (operands : List ℤ) (fuel : ℕ) (calls : List ActiveCall) (cells : C) (prints : List ℤ)
         → Goes p ways (stand (Evaluate (ArrayElement array index place) ∷ work) operands vars fuel calls cells prints) (stand (Evaluate index ∷ (ReadElement array place ∷ work)) operands vars fuel calls cells prints)
     first_of_element work operands fuel calls cells prints = silent p ways (stand (Evaluate (ArrayElement array index place) ∷ work) operands vars fuel calls cells prints) _ refl
 
@@ -108,18 +109,18 @@ module _ {C : Type 0} (p : Program) (ways : Ways C) (vars : List ℤ) where
 
   -- an element of a grid
   module _ (array : ℕ) (row column : Expression) (place : Place) where
-    first_of_grid : (work : List Continuation) (operands : List ℤ) (fuel calls : ℕ) (cells : C) (prints : List ℤ)
+    first_of_grid : (work : List Continuation) (operands : List ℤ) (fuel : ℕ) (calls : List ActiveCall) (cells : C) (prints : List ℤ)
         → Goes p ways (stand (Evaluate (GridElement array row column place) ∷ work) operands vars fuel calls cells prints)
         (stand (Evaluate row ∷ (Evaluate column ∷ (ReadGridElement array place ∷ work))) operands vars fuel calls cells prints)
     first_of_grid work operands fuel calls cells prints = silent p ways (stand (Evaluate (GridElement array row column place) ∷ work) operands vars fuel calls cells prints) _ refl
 
-    to_column : (old mid : C) (i : ℤ) (work : List Continuation) (operands : List ℤ) (fuel calls : ℕ) (prints : List ℤ) → EvaluatesTo p ways row vars old (Ok i) mid
+    to_column : (old mid : C) (i : ℤ) (work : List Continuation) (operands : List ℤ) (fuel : ℕ) (calls : List ActiveCall) (prints : List ℤ) → EvaluatesTo p ways row vars old (Ok i) mid
         → Goes p ways (stand (Evaluate (GridElement array row column place) ∷ work) operands vars fuel calls old prints)
         (stand (Evaluate column ∷ (ReadGridElement array place ∷ work)) (i ∷ operands) vars fuel calls mid prints)
     to_column old mid i work operands fuel calls prints h =
         then_goes p ways _ _ _ (first_of_grid work operands fuel calls old prints) (h (Evaluate column ∷ (ReadGridElement array place ∷ work)) operands fuel calls prints)
 
-    to_read : (old mid next : C) (i j : ℤ) (work : List Continuation) (operands : List ℤ) (fuel calls : ℕ) (prints : List ℤ) → EvaluatesTo p ways row vars old (Ok i) mid → EvaluatesTo p ways column vars mid (Ok j) next
+    to_read : (old mid next : C) (i j : ℤ) (work : List Continuation) (operands : List ℤ) (fuel : ℕ) (calls : List ActiveCall) (prints : List ℤ) → EvaluatesTo p ways row vars old (Ok i) mid → EvaluatesTo p ways column vars mid (Ok j) next
         → Goes p ways (stand (Evaluate (GridElement array row column place) ∷ work) operands vars fuel calls old prints)
         (stand (ReadGridElement array place ∷ work) (j ∷ (i ∷ operands)) vars fuel calls next prints)
     to_read old mid next i j work operands fuel calls prints h g =
@@ -170,11 +171,11 @@ module _ {C : Type 0} (p : Program) (ways : Ways C) (vars : List ℤ) where
 
   -- a sign and a negation
   module _ (operand : Expression) where
-    first_of_negative : (work : List Continuation) (operands : List ℤ) (fuel calls : ℕ) (cells : C) (prints : List ℤ)
+    first_of_negative : (work : List Continuation) (operands : List ℤ) (fuel : ℕ) (calls : List ActiveCall) (cells : C) (prints : List ℤ)
         → Goes p ways (stand (Evaluate (Negative operand) ∷ work) operands vars fuel calls cells prints) (stand (Evaluate operand ∷ (Negate ∷ work)) operands vars fuel calls cells prints)
     first_of_negative work operands fuel calls cells prints = silent p ways (stand (Evaluate (Negative operand) ∷ work) operands vars fuel calls cells prints) _ refl
 
-    first_of_negation : (work : List Continuation) (operands : List ℤ) (fuel calls : ℕ) (cells : C) (prints : List ℤ)
+    first_of_negation : (work : List Continuation) (operands : List ℤ) (fuel : ℕ) (calls : List ActiveCall) (cells : C) (prints : List ℤ)
         → Goes p ways (stand (Evaluate (Negation operand) ∷ work) operands vars fuel calls cells prints) (stand (Evaluate operand ∷ (Invert ∷ work)) operands vars fuel calls cells prints)
     first_of_negation work operands fuel calls cells prints = silent p ways (stand (Evaluate (Negation operand) ∷ work) operands vars fuel calls cells prints) _ refl
 
@@ -220,7 +221,7 @@ module _ {C : Type 0} (p : Program) (ways : Ways C) (vars : List ℤ) where
 
   -- an operator
   module _ (op : BinOp) (left right : Expression) (place : Place) where
-    first_of_binary : (work : List Continuation) (operands : List ℤ) (fuel calls : ℕ) (cells : C) (prints : List ℤ)
+    first_of_binary : (work : List Continuation) (operands : List ℤ) (fuel : ℕ) (calls : List ActiveCall) (cells : C) (prints : List ℤ)
         → Goes p ways (stand (Evaluate (Binary op left right place) ∷ work) operands vars fuel calls cells prints) (stand (Evaluate left ∷ (Right op right place ∷ work)) operands vars fuel calls cells prints)
     first_of_binary work operands fuel calls cells prints = silent p ways (stand (Evaluate (Binary op left right place) ∷ work) operands vars fuel calls cells prints) _ refl
 
@@ -239,7 +240,7 @@ module _ {C : Type 0} (p : Program) (ways : Ways C) (vars : List ℤ) where
         ends_alike p ways _ (fault_ending fault) (Right op right place ∷ work) work operands operands vars fuel calls new prints
         (then_ends p ways _ _ _ _ (first_of_binary work operands fuel calls old prints) (h (Right op right place ∷ work) operands fuel calls prints))
 
-    to_operator : (old mid : C) (x : ℤ) (work : List Continuation) (operands : List ℤ) (fuel calls : ℕ) (prints : List ℤ) → EvaluatesTo p ways left vars old (Ok x) mid
+    to_operator : (old mid : C) (x : ℤ) (work : List Continuation) (operands : List ℤ) (fuel : ℕ) (calls : List ActiveCall) (prints : List ℤ) → EvaluatesTo p ways left vars old (Ok x) mid
         → Goes p ways (stand (Evaluate (Binary op left right place) ∷ work) operands vars fuel calls old prints) (stand (Right op right place ∷ work) (x ∷ operands) vars fuel calls mid prints)
     to_operator old mid x work operands fuel calls prints h =
         then_goes p ways _ _ _ (first_of_binary work operands fuel calls old prints) (h (Right op right place ∷ work) operands fuel calls prints)
@@ -250,7 +251,7 @@ module _ {C : Type 0} (p : Program) (ways : Ways C) (vars : List ℤ) where
         (silent p ways (stand (Right op right place ∷ work) (x ∷ operands) vars fuel calls mid prints) _
         (ap (λ (d : Option ℤ). right_by d op x right place (record { work = work; operands = operands; vars = vars; fuel = fuel; calls = calls })) is))
 
-    to_right : (old mid : C) (x : ℤ) (work : List Continuation) (operands : List ℤ) (fuel calls : ℕ) (prints : List ℤ) → EvaluatesTo p ways left vars old (Ok x) mid → decided op (is_true x) ≡ None
+    to_right : (old mid : C) (x : ℤ) (work : List Continuation) (operands : List ℤ) (fuel : ℕ) (calls : List ActiveCall) (prints : List ℤ) → EvaluatesTo p ways left vars old (Ok x) mid → decided op (is_true x) ≡ None
         → Goes p ways (stand (Evaluate (Binary op left right place) ∷ work) operands vars fuel calls old prints) (stand (Evaluate right ∷ (Apply op place ∷ work)) (x ∷ operands) vars fuel calls mid prints)
     to_right old mid x work operands fuel calls prints h is =
         then_goes p ways _ _ _ (to_operator old mid x work operands fuel calls prints h)
@@ -273,7 +274,7 @@ module _ {C : Type 0} (p : Program) (ways : Ways C) (vars : List ℤ) where
         ends_alike p ways _ (fault_ending fault) (Apply op place ∷ work) work (x ∷ operands) operands vars fuel calls new prints
         (then_ends p ways _ _ _ _ (to_right old mid x work operands fuel calls prints h is) (g (Apply op place ∷ work) (x ∷ operands) fuel calls prints))
 
-    gives_applied : (value : Option ℤ) (from : Config) (work : List Continuation) (operands : List ℤ) (fuel calls : ℕ) (prints : List ℤ) (cells : C)
+    gives_applied : (value : Option ℤ) (from : Config) (work : List Continuation) (operands : List ℤ) (fuel : ℕ) (calls : List ActiveCall) (prints : List ℤ) (cells : C)
         → step_of p from ≡ applied value place (record { work = work; operands = operands; vars = vars; fuel = fuel; calls = calls })
         → Gives p ways (record { config = from; cells = cells; prints = prints }) work operands vars fuel calls prints (quotient_or value place) cells
     gives_applied None from work operands fuel calls prints cells is = ended p ways (record { config = from; cells = cells; prints = prints }) _ _ is

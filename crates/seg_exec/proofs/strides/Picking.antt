@@ -4,6 +4,7 @@ use Rattle.twe_program.specs.declared.stmt.Arm.{Arm}
 use Rattle.twe_program.specs.Program.{Program}
 use Rattle.twe_program.specs.Statement.{Statements}
 use Rattle.twe_program.specs.inner.StatementView.{arms_of}
+use Rattle.seg_exec.specs.declared.active.ActiveCall.{ActiveCall}
 use Rattle.seg_exec.specs.declared.strides.value.Fault.{Fault}
 use Rattle.seg_exec.specs.Access.{Ways}
 use Rattle.seg_exec.specs.Arithmetic.{is_true}
@@ -24,7 +25,7 @@ module _ {C : Type 0} (p : Program) (ways : Ways C) (arms : List Arm) (last : Op
     abbrev after_condition : List Continuation → List Continuation
     after_condition work = Chosen at (at + 1) first.body (arms_of (drop (at + 1) arms) last) ∷ work
 
-    to_condition : (work : List Continuation) (operands : List ℤ) (fuel calls : ℕ) (cells : C) (prints : List ℤ)
+    to_condition : (work : List Continuation) (operands : List ℤ) (fuel : ℕ) (calls : List ActiveCall) (cells : C) (prints : List ℤ)
         → Goes p ways (stand (choosing_at at arms last work) operands vars fuel calls cells prints)
         (stand (Evaluate first.condition ∷ after_condition work) operands vars fuel calls cells prints)
     to_condition work operands fuel calls cells prints =
@@ -42,7 +43,7 @@ module _ {C : Type 0} (p : Program) (ways : Ways C) (arms : List Arm) (last : Op
     }
 
     pub condition_fault : (old mid new : C) (fault : Fault) → ComesTo p ways arms last vars old at mid → EvaluatesTo p ways first.condition vars mid (Err fault) new
-        → (work : List Continuation) (operands : List ℤ) (fuel calls : ℕ) (prints : List ℤ)
+        → (work : List Continuation) (operands : List ℤ) (fuel : ℕ) (calls : List ActiveCall) (prints : List ℤ)
         → Ends p ways (stand (choosing_first arms last work) operands vars fuel calls old prints) (fault_ending fault) (stand work operands vars fuel calls new prints)
     condition_fault old mid new fault came has work operands fuel calls prints =
         ends_alike p ways _ (fault_ending fault) (after_condition work) work operands operands vars fuel calls new prints
@@ -50,16 +51,16 @@ module _ {C : Type 0} (p : Program) (ways : Ways C) (arms : List Arm) (last : Op
         ((to_condition work operands fuel calls mid prints).on start ((came work operands fuel calls prints).on start r)))
 
     to_choice : (mid new : C) (value : ℤ) → EvaluatesTo p ways first.condition vars mid (Ok value) new
-        → (work : List Continuation) (operands : List ℤ) (fuel calls : ℕ) (prints : List ℤ)
+        → (work : List Continuation) (operands : List ℤ) (fuel : ℕ) (calls : List ActiveCall) (prints : List ℤ)
         → Goes p ways (stand (choosing_at at arms last work) operands vars fuel calls mid prints) (stand (after_condition work) (value ∷ operands) vars fuel calls new prints)
     to_choice mid new value has work operands fuel calls prints =
         then_goes p ways _ _ _ (to_condition work operands fuel calls mid prints) (has (after_condition work) operands fuel calls prints)
 
-    abbrev chosen_config : (work : List Continuation) (operands : List ℤ) (fuel calls : ℕ) → Config
+    abbrev chosen_config : (work : List Continuation) (operands : List ℤ) (fuel : ℕ) (calls : List ActiveCall) → Config
     chosen_config work operands fuel calls = record { work = work; operands = operands; vars = vars; fuel = fuel; calls = calls }
 
     pub condition_true : (old mid new : C) (value : ℤ) → ComesTo p ways arms last vars old at mid → EvaluatesTo p ways first.condition vars mid (Ok value) new → is_true value ≡ true
-        → (work : List Continuation) (operands : List ℤ) (fuel calls : ℕ) (prints : List ℤ)
+        → (work : List Continuation) (operands : List ℤ) (fuel : ℕ) (calls : List ActiveCall) (prints : List ℤ)
         → Goes p ways (stand (choosing_first arms last work) operands vars fuel calls old prints) (stand (Rest at 0 first.body ∷ work) operands vars fuel calls new prints)
     condition_true old mid new value came has holds work operands fuel calls prints =
         near_goes p ways _ _ _ (came work operands fuel calls prints)
@@ -76,7 +77,7 @@ module _ {C : Type 0} (p : Program) (ways : Ways C) (arms : List Arm) (last : Op
         (ap (λ (b : Bool). chosen_by b at (at + 1) first.body (arms_of (drop (at + 1) arms) last) (chosen_config work operands fuel calls)) fails)))
 
   module _ (at : ℕ) (is : drop at arms ≡ []) where
-    no_arm_left : (work : List Continuation) (operands : List ℤ) (fuel calls : ℕ) → choosing at (arms_of (drop at arms) last) (record { work = work; operands = operands; vars = vars; fuel = fuel; calls = calls })
+    no_arm_left : (work : List Continuation) (operands : List ℤ) (fuel : ℕ) (calls : List ActiveCall) → choosing at (arms_of (drop at arms) last) (record { work = work; operands = operands; vars = vars; fuel = fuel; calls = calls })
         ≡ choosing at (arms_of [] last) (record { work = work; operands = operands; vars = vars; fuel = fuel; calls = calls })
     no_arm_left work operands fuel calls = ap (λ (l : List Arm). choosing at (arms_of l last) (record { work = work; operands = operands; vars = vars; fuel = fuel; calls = calls })) is
 
@@ -87,7 +88,7 @@ module _ {C : Type 0} (p : Program) (ways : Ways C) (arms : List Arm) (last : Op
         (no_arm_left work operands fuel calls ∙ ap (λ (l : Option Statements). choosing at (arms_of [] l) (record { work = work; operands = operands; vars = vars; fuel = fuel; calls = calls })) none))
 
     pub last_chosen : (old new : C) (body : Statements) → last ≡ Some body → ComesTo p ways arms last vars old at new
-        → (work : List Continuation) (operands : List ℤ) (fuel calls : ℕ) (prints : List ℤ)
+        → (work : List Continuation) (operands : List ℤ) (fuel : ℕ) (calls : List ActiveCall) (prints : List ℤ)
         → Goes p ways (stand (choosing_first arms last work) operands vars fuel calls old prints) (stand (Rest at 0 body ∷ work) operands vars fuel calls new prints)
     last_chosen old new body some came work operands fuel calls prints =
         near_goes p ways _ _ _ (came work operands fuel calls prints)

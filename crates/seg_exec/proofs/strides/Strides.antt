@@ -1,6 +1,7 @@
 -- Stretches of steps: one step, one stretch after another, and what they allow.
 use Rattle.std.proofs.Common.{◌≡◌, ℕ, ℤ, List, Option, None, Some, refl, sym, subst, arith}
 use Rattle.twe_program.specs.Program.{Program}
+use Rattle.seg_exec.specs.declared.active.ActiveCall.{ActiveCall}
 use Rattle.seg_exec.specs.declared.steps.request.Request.TheVariants.{End}
 use Rattle.seg_exec.specs.declared.steps.request.Ending.{Ending}
 use Rattle.seg_exec.specs.Access.{Ways}
@@ -87,7 +88,7 @@ module _ {C : Type 0} (p : Program) (ways : Ways C) where
   may_now a may = may_step p ways may.start a may.may may.came
 
   -- what is left to be done at the end plays no part
-  pub ends_alike : (old : Standing C) (ending : Ending) (work work' : List Continuation) (operands operands' vars : List ℤ) (fuel calls : ℕ) (cells : C) (prints : List ℤ)
+  pub ends_alike : (old : Standing C) (ending : Ending) (work work' : List Continuation) (operands operands' vars : List ℤ) (fuel : ℕ) (calls : List ActiveCall) (cells : C) (prints : List ℤ)
       → Ends p ways old ending (stand work operands vars fuel calls cells prints) → Ends p ways old ending (stand work' operands' vars fuel calls cells prints)
   ends_alike old ending work work' operands operands' vars fuel calls cells prints h start r =
       let f = h start r in

@@ -6,6 +6,7 @@ ghost use Rattle.seg_exec.specs.declared.steps.request.Request.TheVariants.{End}
 ghost use Rattle.seg_exec.specs.declared.steps.request.Ending.TheVariants.{Faulted};
 ghost use Rattle.seg_exec.specs.inner.steps.Views.{config_of, config_with, use_of};
 
+use crate::active::ActiveCall;
 use crate::steps::continuation::{Continuation, OpenBlock, ValueUse};
 use crate::steps::pushdown::Pushdown;
 use crate::steps::request::{Ending, Request};
@@ -31,8 +32,8 @@ pub(crate) struct Machine<'a> {
     pub(crate) vars: Variables,
     /// The fuel that is left, in units.
     pub(crate) fuel: u64,
-    /// How many method calls are active.
-    pub(crate) calls: u32,
+    /// The method calls that are active, the latest on top.
+    pub(crate) calls: Pushdown<ActiveCall>,
     /// What is left of a block that comes before the continuation frames, at times when such a block comes next. It stands here
     /// so that what the steps return stays small.
     pub(crate) open: OpenBlock<'a>,

@@ -1,10 +1,10 @@
 //! The stacks of the evaluator. A push writes the item where it stays, and is inlined.
-ghost use Rattle.std.specs.Prelude.{◌≡◌, [], ◌∷◌, OnOk, MatchOption};
+ghost use Rattle.std.specs.Prelude.{◌≡◌, [], ◌∷◌, drop, length, OnOk, MatchOption};
 ghost use Rattle.twe_base.specs.Stacks.{top, below};
 
 use std::alloc::Global;
 use std::marker::Model;
-use twe_base::Memory;
+use twe_base::{List, Memory};
 
 /// A stack: the item pushed last is popped first. Contracts see a list whose first item is the top.
 #[derive(Debug, Drop)]
@@ -55,5 +55,30 @@ impl<T: Drop> Pushdown<T> {
         ensures rest { self.new ≡ below self.old }
     {
         self.items.pop().unwrap_or(other)
+    }
+
+    /// How many items there are.
+    #[inline(always)]
+    pub(crate) fn len(&self) -> usize
+        ensures { result ≡ length self.now }
+    {
+        self.items.len()
+    }
+
+    /// Removes the top item, if there is one.
+    #[inline(always)]
+    pub(crate) fn drop_top(&mut self)
+        ensures { self.new ≡ drop 1 self.old }
+    {
+        let _ = self.items.pop();
+    }
+
+    /// The items as a list, the top one first. It takes no memory.
+    pub(crate) fn into_list(self) -> List<T>
+        ensures { result ≡ self }
+    {
+        let Pushdown { mut items } = self;
+        items.reverse();
+        List::from(items)
     }
 }

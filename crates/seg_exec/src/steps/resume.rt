@@ -131,7 +131,7 @@ impl<'a> Machine<'a> {
             ≡ back_with value (last_of count self.old.vars.callers) (config_under (Leave count) self.old)) }
     {
         self.vars.leave(count);
-        self.calls = self.calls.saturating_sub(1);
+        self.calls.drop_top();
         self.push_operand(value)
     }
 

@@ -11,6 +11,7 @@ ghost use Rattle.seg_exec.specs.inner.strides.Strides.{MayGo, MayStride};
 ghost use Rattle.seg_exec.specs.inner.steps.Reached.{standing};
 ghost use Rattle.seg_exec.specs.Access.{ways_of};
 
+use crate::active::ActiveCall;
 use crate::body::{start, statements};
 use crate::cells::Cells;
 use crate::operation::Operation;
@@ -47,27 +48,27 @@ fn refuse(machine: &mut Machine<'_>, count: usize, kind: FaultKind, place: Place
     Onward::End
 }
 
-/// Enters a method, which takes a unit of fuel: its body comes next. Its arguments are the variables of the active body after
-/// the first `count`. It is a fault if no fuel is left, or if `MAX_ACTIVE_CALLS` calls are active already.
+/// Enters the method of a call, which takes a unit of fuel: its body comes next. Its arguments are the variables of the active
+/// body after the first `count`. It is a fault if no fuel is left, or if `MAX_ACTIVE_CALLS` calls are active already.
 #[inline(always)]
 fn enter<'a>(
     machine: &mut Machine<'a>,
     decl: Option<&'a Decl>,
     count: usize,
-    place: Place,
+    call: ActiveCall,
 ) -> Result<Onward, Memory>
     requires { count ≤ length machine.old.vars.active }
     ensures { IfOk result (λ onward. step_on (course onward machine.new) (config_of machine.new)
-        ≡ entering (option_copied decl.entry) (drop count machine.old.vars.active) place (config_before count machine.old)) }
+        ≡ entering (option_copied decl.entry) (drop count machine.old.vars.active) call (config_before count machine.old)) }
 {
     if machine.fuel == 0 {
-        return Ok(refuse(machine, count, FaultKind::Fuel, place));
+        return Ok(refuse(machine, count, FaultKind::Fuel, call.place));
     }
     machine.fuel -= 1;
-    if machine.calls >= MAX_ACTIVE_CALLS {
-        return Ok(refuse(machine, count, FaultKind::Depth, place));
+    if machine.calls.len() >= MAX_ACTIVE_CALLS as usize {
+        return Ok(refuse(machine, count, FaultKind::Depth, call.place));
     }
-    machine.calls += 1;
+    machine.calls.push(call)?;
     machine.vars.enter(count);
     start(decl, &mut machine.vars)?;
     machine.push(Continuation::Leave(count))?;
@@ -100,7 +101,8 @@ fn gathered<'a, C: Cells>(
 {
     match goal {
         Goal::Enter { method, place } => {
-            enter(machine, p.methods.get(method as usize), count, place)
+            let call = ActiveCall { method, place };
+            enter(machine, p.methods.get(method as usize), count, call)
         }
         Goal::Make {
             future,

@@ -10,6 +10,7 @@ use Rattle.twe_program.specs.Program.{Program}
 use Rattle.twe_program.specs.Expression.{Expression, Literal, Truth, Variable, CellValue, ArrayElement, GridElement, CallValue, Negative, Negation, Binary, Arguments, argument}
 use Rattle.twe_program.specs.Expression as exprs
 use Rattle.twe_program.specs.Statement.{Statement, Block, Let, Set, SetCell, SetArray, SetGrid, If, While, Return, Print, Call, Make, Wait, Statements, no_more, statement, Arms, arm, otherwise, no_else}
+use Rattle.seg_exec.specs.declared.active.ActiveCall.{ActiveCall}
 use Rattle.seg_exec.specs.declared.frame.Position.{Position}
 use Rattle.seg_exec.specs.Arithmetic.{is_true, operated, decided}
 use Rattle.seg_exec.specs.Cells.{element_number, grid_element_number}
@@ -94,15 +95,15 @@ module _ (p : Program) (count limit : ℕ) where
   BelowKept below = (stmt : Statement) (s : Store) → Kept s → FlowKept (below stmt s)
 
   module _ (below : Below) (keeps : BelowKept below) where
-    entered_kept : (full : Bool) (decl : Option Decl) (args : List ℤ) (place : Place) (s : Store) → Kept s → GivenKept (entered full below decl args place s)
-    entered_kept true decl args place s h = h
-    entered_kept false decl args place s h =
-        let inside : Store = record s { vars = vars_at_start decl args; calls = s.calls + 1 } in
+    entered_kept : (full : Bool) (decl : Option Decl) (args : List ℤ) (call : ActiveCall) (s : Store) → Kept s → GivenKept (entered full below decl args call s)
+    entered_kept true decl args call s h = h
+    entered_kept false decl args call s h =
+        let inside : Store = record s { vars = vars_at_start decl args; calls = call ∷ s.calls } in
         back_kept s.vars (below (Block 0 (body_of decl)) inside) (keeps (Block 0 (body_of decl)) inside h)
 
     called_kept : (method : ℕ) (args : List ℤ) (place : Place) (s : Store) → Kept s → GivenKept (called below p method args place s)
     called_kept method args place s h =
-        give_kept (unit_taken place s) _ (unit_kept s.fuel place s h.1 h) (λ unit s1 h1. entered_kept (nat_le max_active_calls s1.calls) (slice_get p.methods method) args place s1 h1)
+        give_kept (unit_taken place s) _ (unit_kept s.fuel place s h.1 h) (λ unit s1 h1. entered_kept (nat_le max_active_calls (length s1.calls)) (slice_get p.methods method) args (record { method = method; place = place }) s1 h1)
 
     mutual
       value_kept : (e : Expression) (s : Store) → Kept s → GivenKept (value_of below p e s)

@@ -4,6 +4,7 @@ use Rattle.twe_base.specs.declared.place.Place.{Place}
 use Rattle.twe_ast.specs.declared.expr.BinOp.{BinOp}
 use Rattle.twe_program.specs.Expression.{Expression, Arguments}
 use Rattle.twe_program.specs.Statement.{Statement, Statements, Arms}
+use Rattle.seg_exec.specs.declared.active.ActiveCall.{ActiveCall}
 use Rattle.seg_exec.specs.declared.frame.Position.{Position}
 use Rattle.seg_exec.specs.declared.operation.Operation.{Operation}
 use Rattle.seg_exec.specs.declared.steps.continuation.Goal.{Goal}
@@ -48,13 +49,13 @@ pub data Continuation : Type 0 where
   Leave : (vars : List ℤ) → Continuation
 
 -- the state of the evaluator: the continuation and the operand stack, each with its top first, the variables of the
--- active body, the fuel that is left, and the number of active calls
+-- active body, the fuel that is left, and the active calls, the latest first
 pub record Config : Type 0 where
   pub work : List Continuation
   pub operands : List ℤ
   pub vars : List ℤ
   pub fuel : ℕ
-  pub calls : ℕ
+  pub calls : List ActiveCall
 
 -- the latest value; 0 if there is none
 abbrev pub top : List ℤ → ℤ

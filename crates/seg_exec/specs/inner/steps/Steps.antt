@@ -1,5 +1,5 @@
 -- One step of the evaluator.
-use Rattle.std.specs.Prelude.{ℕ, ◌+◌, ◌-◌, ℤ, pos, Bool, true, false, List, [], ◌∷◌, ◌++◌, Option, None, Some, nat_eq, nat_le, slice_get, slice_set}
+use Rattle.std.specs.Prelude.{ℕ, ◌+◌, ◌-◌, ℤ, pos, Bool, true, false, List, [], ◌∷◌, ◌++◌, drop, length, Option, None, Some, nat_eq, nat_le, slice_get, slice_set}
 use Rattle.twe_base.specs.declared.place.Place.{Place}
 use Rattle.twe_base.specs.Language.{max_active_calls}
 use Rattle.twe_base.specs.declared.fault.FaultKind.{FaultKind}
@@ -10,6 +10,7 @@ use Rattle.twe_program.specs.Program.{Program}
 use Rattle.twe_program.specs.Expression.{Expression, Literal, Truth, Variable, CellValue, ArrayElement, GridElement, CallValue, Negative, Negation, Binary, Arguments, argument}
 use Rattle.twe_program.specs.Expression as args
 use Rattle.twe_program.specs.Statement.{Statement, Block, Let, Set, SetCell, SetArray, SetGrid, If, While, Return, Print, Call, Make, Wait, Statements, no_more, statement, Arms, arm, otherwise, no_else}
+use Rattle.seg_exec.specs.declared.active.ActiveCall.{ActiveCall}
 use Rattle.seg_exec.specs.declared.frame.Position.{Position}
 use Rattle.seg_exec.specs.declared.operation.Operation.{Operation}
 use Rattle.seg_exec.specs.declared.operation.Operation.TheVariants as operations
@@ -122,18 +123,20 @@ abbrev pub turned_next : Statement → Statements → Place → Config → Step
 turned_next again body place c = turned_by (is_true (top c.operands)) again body place (without_operand c)
 
 -- a method is entered, unless too many calls are active already
-abbrev pub entered_by : Bool → Option Decl → List ℤ → Place → Config → Step
-entered_by true decl args place c = faulted Depth place c
-entered_by false decl args place c =
-    on (to_do (Rest 0 0 (body_of decl)) (to_do (Leave c.vars) (record c { vars = vars_at_start decl args; calls = c.calls + 1 })))
+abbrev pub entered_by : Bool → Option Decl → List ℤ → ActiveCall → Config → Step
+entered_by true decl args call c = faulted Depth call.place c
+entered_by false decl args call c =
+    on (to_do (Rest 0 0 (body_of decl)) (to_do (Leave c.vars) (record c { vars = vars_at_start decl args; calls = call ∷ c.calls })))
 
 -- the call of a method takes a unit of fuel, and then the method is entered
-abbrev pub entering : Option Decl → List ℤ → Place → Config → Step
-entering decl args place c = asked_unit place c (λ c1. entered_by (nat_le max_active_calls c1.calls) decl args place c1)
+abbrev pub entering : Option Decl → List ℤ → ActiveCall → Config → Step
+entering decl args call c =
+    asked_unit call.place c (λ c1. entered_by (nat_le max_active_calls (length c1.calls)) decl args call c1)
 
 -- all arguments have values: a method is entered, or the task operation suspends the run, which takes a unit of fuel
 abbrev pub gathered : Program → List ℤ → Goal → Config → Step
-gathered p args (goals.Enter method place) c = entering (slice_get p.methods method) args place c
+gathered p args (goals.Enter method place) c =
+    entering (slice_get p.methods method) args (record { method = method; place = place }) c
 gathered p args (goals.Make future task spawned place) c =
     asked_unit place c (λ c1. on (to_do (Suspend (operations.Make future task args spawned place) []) c1))
 
@@ -204,7 +207,7 @@ printing place c = asked_unit place (without_operand c) (λ c1. (requests.Print 
 
 -- the caller continues with a value
 abbrev pub back_with : ℤ → List ℤ → Config → Config
-back_with value vars c = record c { operands = value ∷ c.operands; vars = vars; calls = c.calls - 1 }
+back_with value vars c = record c { operands = value ∷ c.operands; vars = vars; calls = drop 1 c.calls }
 
 -- what unwinding recovers from a continuation frame: the variables of the caller, or the position of a block
 pub data Recovery : Type 0 where

@@ -34,7 +34,7 @@ with_unfolded stmts positions c = record c { work = unfolded stmts positions c.w
 abbrev pub body_config : Program → Frame → OpenBody → Config
 body_config p frame body =
     with_unfolded (body_of (slice_get p.tasks frame.decl)) body.open_blocks
-    (record { work = []; operands = []; vars = body.vars; fuel = frame.fuel; calls = 0 })
+    (record { work = []; operands = []; vars = body.vars; fuel = frame.fuel; calls = [] })
 
 -- the evaluator at what remains of a frame, if the frame is not at its end
 abbrev pub config_at : Program → Frame → Option OpenBody → Option Config

@@ -5,6 +5,7 @@ use Rattle.twe_base.specs.declared.fault.FaultKind.TheVariants.{Index}
 use Rattle.twe_program.specs.Program.{Program}
 use Rattle.twe_program.specs.Expression.{Expression}
 use Rattle.twe_program.specs.Statement.{Statement}
+use Rattle.seg_exec.specs.declared.active.ActiveCall.{ActiveCall}
 use Rattle.seg_exec.specs.declared.strides.assign.Carried.{Carried}
 use Rattle.seg_exec.specs.declared.strides.assign.Carried.TheVariants.{Done, Faulted, Left}
 use Rattle.seg_exec.specs.Access.{HasWritten, Ways}
@@ -33,7 +34,7 @@ pub record MayDo {C : Type 0} (p : Program) (ways : Ways C)
   pub work : List Continuation
   pub operands : List ℤ
   pub fuel : ℕ
-  pub calls : ℕ
+  pub calls : List ActiveCall
   pub prints : List ℤ
   pub may : MayGo p ways (stand (tasks work) operands vars fuel calls cells prints)
 
@@ -41,10 +42,10 @@ pub record MayDo {C : Type 0} (p : Program) (ways : Ways C)
 abbrev pub Does : {C : Type 0} → Program → Ways C
     → (List Continuation → List Continuation) → List ℤ → C → Carried → List ℤ → C → Type 0
 Does p ways tasks vars old Done vars' new =
-    (work : List Continuation) (operands : List ℤ) (fuel calls : ℕ) (prints : List ℤ)
+    (work : List Continuation) (operands : List ℤ) (fuel : ℕ) (calls : List ActiveCall) (prints : List ℤ)
     → Goes p ways (stand (tasks work) operands vars fuel calls old prints) (stand work operands vars' fuel calls new prints)
 Does p ways tasks vars old (Faulted fault) vars' new =
-    (work : List Continuation) (operands : List ℤ) (fuel calls : ℕ) (prints : List ℤ)
+    (work : List Continuation) (operands : List ℤ) (fuel : ℕ) (calls : List ActiveCall) (prints : List ℤ)
     → Ends p ways (stand (tasks work) operands vars fuel calls old prints) (fault_ending fault)
     (stand work operands vars' fuel calls new prints)
 Does p ways tasks vars old Left vars' new = (vars' ≡ vars) × (new ≡ old)

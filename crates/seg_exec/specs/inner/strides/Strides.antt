@@ -4,6 +4,7 @@ use Rattle.twe_base.specs.declared.place.Place.{Place}
 use Rattle.twe_base.specs.declared.fault.FaultKind.TheVariants.{DivZero, Index}
 use Rattle.twe_program.specs.Program.{Program}
 use Rattle.twe_program.specs.Expression.{Expression}
+use Rattle.seg_exec.specs.declared.active.ActiveCall.{ActiveCall}
 use Rattle.seg_exec.specs.declared.steps.machine.Machine.{Machine}
 use Rattle.seg_exec.specs.declared.steps.request.Ending.{Ending}
 use Rattle.seg_exec.specs.declared.steps.request.Ending.TheVariants.{Faulted}
@@ -60,7 +61,7 @@ Strides p known may_read may_write rule task machine cells prints machine' cells
     (doing task (standing machine cells prints)) ending (standing machine' cells' prints')
 
 -- a standing by its parts
-abbrev pub stand : {C : Type 0} → List Continuation → List ℤ → List ℤ → ℕ → ℕ → C → List ℤ → Standing C
+abbrev pub stand : {C : Type 0} → List Continuation → List ℤ → List ℤ → ℕ → List ActiveCall → C → List ℤ → Standing C
 stand work operands vars fuel calls cells prints = record {
   config = record { work = work; operands = operands; vars = vars; fuel = fuel; calls = calls };
   cells = cells;
@@ -73,7 +74,7 @@ fault_ending fault = Faulted fault.kind fault.place
 
 -- a value comes onto the operand stack, or a fault is met
 abbrev pub Gives : {C : Type 0} → Program → Ways C → Standing C
-    → List Continuation → List ℤ → List ℤ → ℕ → ℕ → List ℤ → Result ℤ Fault → C → Type 0
+    → List Continuation → List ℤ → List ℤ → ℕ → List ActiveCall → List ℤ → Result ℤ Fault → C → Type 0
 Gives p ways old work operands vars fuel calls prints (Ok value) new =
     Goes p ways old (stand work (value ∷ operands) vars fuel calls new prints)
 Gives p ways old work operands vars fuel calls prints (Err fault) new =
@@ -82,7 +83,7 @@ Gives p ways old work operands vars fuel calls prints (Err fault) new =
 -- an expression has a value or meets a fault, whatever else is to be done
 abbrev pub EvaluatesTo : {C : Type 0} → Program → Ways C → Expression → List ℤ → C → Result ℤ Fault → C → Type 0
 EvaluatesTo p ways e vars old result new =
-    (work : List Continuation) (operands : List ℤ) (fuel calls : ℕ) (prints : List ℤ)
+    (work : List Continuation) (operands : List ℤ) (fuel : ℕ) (calls : List ActiveCall) (prints : List ℤ)
     → Gives p ways (stand (Evaluate e ∷ work) operands vars fuel calls old prints) work operands vars fuel calls prints result new
 
 -- a run that the implementation allows came to the evaluation of an expression
@@ -90,7 +91,7 @@ pub record MayEvaluate {C : Type 0} (p : Program) (ways : Ways C) (e : Expressio
   pub work : List Continuation
   pub operands : List ℤ
   pub fuel : ℕ
-  pub calls : ℕ
+  pub calls : List ActiveCall
   pub prints : List ℤ
   pub may : MayGo p ways (stand (Evaluate e ∷ work) operands vars fuel calls cells prints)
 

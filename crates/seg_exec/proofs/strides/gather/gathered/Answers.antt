@@ -27,7 +27,7 @@ returns-in-Enter g c =
     c.get.ensures ∙ ap (λ (p : Program). slice_get p.methods c.in-Enter.method) c.p.view_is in
     if_ok_map c.enter.result (λ onward is. moves_step c.args.p.now ways before (course onward c.enter.new.machine) (config_of c.enter.new.machine)
     (ap (λ (for_what : Goal). gathered c.args.p.now taken for_what old) c.in-Enter.is
-    ∙ ap (λ (decl : Option Decl). entering decl taken c.in-Enter.place old) (sym found) ∙ sym is)) c.enter.ensures
+    ∙ ap (λ (decl : Option Decl). entering decl taken (record { method = c.in-Enter.method; place = c.in-Enter.place }) old) (sym found) ∙ sym is)) c.enter.ensures
 
 pub returns-in_ok-request-in-Make : goal.returns-in_ok-request-in-Make
 returns-in_ok-request-in-Make g c =
