@@ -5,8 +5,8 @@ ghost use Rattle.twe_program.specs.Program.{cell_count};
 ghost use Rattle.twe_machine.specs.Runs.{Legal, is_fault, state_after};
 ghost use Rattle.run_causes.specs.FaultScenes.{IsFaultScene, scene_ahead, scene_between, scene_by_kind};
 
-use seg_journal::{End, Entry, Limits};
 use seg_exec::{FaultScene, fault_scene, run_segment_over_list};
+use seg_journal::{End, Entry, Limits};
 use std::alloc::Global;
 use twe_base::{FaultKind, Ints, List, Memory};
 use twe_machine::{FirstFault, Frame, OpenBody, State, start, step, take_ready};

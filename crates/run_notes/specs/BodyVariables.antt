@@ -11,15 +11,9 @@ use Rattle.twe_ast.specs.Expression.{Expression, expression, Shape, Literal, Tru
 use Rattle.twe_ast.specs.Expression as args
 use Rattle.twe_ast.specs.Statement.{Statement, Block, Let, If, While, LetWait, Statements, end_of_block, statement, Arms, arm, otherwise, no_else}
 use Rattle.name_check.specs.Ends.{close_of}
+use Rattle.name_notes.specs.Declaring.{stands_before}
+use Rattle.name_notes.specs.Variables.{is_same_place}
 use Rattle.run_notes.specs.declared.body_variables.BodyVariable.{BodyVariable}
-
--- the places are the same
-abbrev pub is_same_place : Place → Place → Bool
-is_same_place place other = (place.line == other.line) && (place.col == other.col)
-
--- the place is earlier in the text than the other one
-abbrev pub is_earlier : Place → Place → Bool
-is_earlier place other = nat_lt place.line other.line || ((place.line == other.line) && nat_lt place.col other.col)
 
 -- An array, a call or an operator of the expression stands at the place. At no other part of an expression a fault is met.
 abbrev mutual
@@ -54,7 +48,7 @@ abbrev pub local_at : Place → Place → Name → Bool → Bool → BodyVariabl
 local_at place close name boolean within = record {
   name = name;
   boolean = boolean;
-  in_scope = is_earlier name.place place && (is_earlier place close && not within);
+  in_scope = stands_before name.place place && (stands_before place close && not within);
 }
 
 -- the locals that statements declare, in the order of the text
@@ -83,19 +77,19 @@ abbrev pub parameter : Name → BodyVariable
 parameter name = record { name = name; boolean = false; in_scope = true }
 
 -- the variables of a declaration by their numbers: the parameters, and then the locals
-abbrev pub variables_of : Place → Decl → List BodyVariable
-variables_of place decl = map parameter decl.params ++ locals_in place decl.body
+abbrev pub body_variables_of : Place → Decl → List BodyVariable
+body_variables_of place decl = map parameter decl.params ++ locals_in place decl.body
 
 -- those of the declaration, if its name is at the place `declared`, or else these
-abbrev pub variables_if_at : Place → Place → Decl → List BodyVariable → List BodyVariable
-variables_if_at place declared decl others =
-    if is_same_place decl.name.place declared then variables_of place decl else others
+abbrev pub body_variables_if_at : Place → Place → Decl → List BodyVariable → List BodyVariable
+body_variables_if_at place declared decl others =
+    if is_same_place decl.name.place declared then body_variables_of place decl else others
 
 -- those of the first declaration whose name is at the place `declared`; none if there is none
-abbrev pub variables_at : Place → Place → List Item → List BodyVariable
-variables_at place declared [] = []
-variables_at place declared (Regions names ∷ items) = variables_at place declared items
-variables_at place declared (Cell cell ∷ items) = variables_at place declared items
-variables_at place declared (Method decl ∷ items) = variables_if_at place declared decl (variables_at place declared items)
-variables_at place declared (Task deterministic decl ∷ items) =
-    variables_if_at place declared decl (variables_at place declared items)
+abbrev pub body_variables_at : Place → Place → List Item → List BodyVariable
+body_variables_at place declared [] = []
+body_variables_at place declared (Regions names ∷ items) = body_variables_at place declared items
+body_variables_at place declared (Cell cell ∷ items) = body_variables_at place declared items
+body_variables_at place declared (Method decl ∷ items) = body_variables_if_at place declared decl (body_variables_at place declared items)
+body_variables_at place declared (Task deterministic decl ∷ items) =
+    body_variables_if_at place declared decl (body_variables_at place declared items)

@@ -5,7 +5,7 @@ use Rattle.seg_exec.specs.declared.active.ActiveCall.{ActiveCall}
 use Rattle.twe_program.specs.Program.{Program}
 use Rattle.place_notes.specs.declared.note.Note.{Note}
 use Rattle.place_notes.specs.Notes.{note_at}
-use Rattle.run_notes.specs.BodyVariables.{is_same_place}
+use Rattle.name_notes.specs.Variables.{is_same_place}
 use Rattle.run_notes.specs.declared.calls_shown.CallRun.{CallRun}
 
 -- how many runs of calls are shown at most

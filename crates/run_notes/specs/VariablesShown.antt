@@ -11,7 +11,7 @@ use Rattle.seg_exec.specs.Arithmetic.{is_true}
 use Rattle.seg_exec.specs.declared.active.ActiveCall.{ActiveCall}
 use Rattle.seg_exec.specs.declared.scene.FaultScene.{FaultScene}
 use Rattle.twe_machine.specs.declared.state.TaskRow.{TaskRow}
-use Rattle.run_notes.specs.BodyVariables.{variables_at}
+use Rattle.run_notes.specs.BodyVariables.{body_variables_at}
 use Rattle.run_notes.specs.declared.body_variables.BodyVariable.{BodyVariable}
 
 -- of how many variables the values are shown at most
@@ -24,13 +24,13 @@ truth_text true = codes "true"
 truth_text false = codes "false"
 
 -- the value of a variable, which holds a truth value or a number
-abbrev pub value_text : Bool → ℤ → List ℕ
-value_text boolean value = if boolean then truth_text (is_true value) else signed_decimal value
+abbrev pub variable_value : Bool → ℤ → List ℕ
+variable_value boolean value = if boolean then truth_text (is_true value) else signed_decimal value
 
 -- what a variable holds, as `n is 10`
 abbrev pub variable_shown : BodyVariable → ℤ → List ℕ
 variable_shown variable value =
-    codes "`" ++ (variable.name.text ++ (codes "` is " ++ value_text variable.boolean value))
+    codes "`" ++ (variable.name.text ++ (codes "` is " ++ variable_value variable.boolean value))
 
 -- the same, if it is in scope
 abbrev pub shown_in_scope : BodyVariable → ℤ → List (List ℕ)
@@ -78,7 +78,7 @@ active_decl p row (call ∷ calls) = slice_get p.methods call.method
 -- the variables of a declaration that was looked up
 abbrev pub variables_of_decl : List Item → Place → Option Decl → List BodyVariable
 variables_of_decl items place None = []
-variables_of_decl items place (Some decl) = variables_at place decl.place items
+variables_of_decl items place (Some decl) = body_variables_at place decl.place items
 
 -- the declarations of a tree that was looked for
 abbrev pub items_of : Option Ast → List Item

@@ -1,7 +1,9 @@
 //! The variables of a body, and which of them are in scope at a place.
 ghost use Rattle.std.specs.Prelude.{◌≡◌, ◌∷◌, [], ◌++◌, IfOk, OnOk, map};
 ghost use Rattle.twe_ast.specs.Expression.{expression};
-ghost use Rattle.run_notes.specs.BodyVariables.{is_boolean, is_earlier, is_same_place, local_at, locals_by, locals_in, locals_of, parameter, stands_in, stands_in_some, variables_at, variables_of};
+ghost use Rattle.name_notes.specs.Declaring.{stands_before};
+ghost use Rattle.name_notes.specs.Variables.{is_same_place};
+ghost use Rattle.run_notes.specs.BodyVariables.{body_variables_at, body_variables_of, is_boolean, local_at, locals_by, locals_in, locals_of, parameter, stands_in, stands_in_some};
 
 use std::alloc::Global;
 use twe_ast::{Args, Arms, Block, Decl, Expr, ExprKind, Item, LocalType, Name, Stmt, StmtKind};
@@ -25,9 +27,9 @@ fn is_same_place(place: Place, other: Place) -> bool
     place.line == other.line && place.col == other.col
 }
 
-/// Whether the place is earlier in the text than the other one.
-fn is_earlier(place: Place, other: Place) -> bool
-    ensures { result ≡ is_earlier place other }
+/// Whether one place comes before another.
+fn stands_before(place: Place, other: Place) -> bool
+    ensures { result ≡ stands_before place other }
 {
     place.line < other.line || (place.line == other.line && place.col < other.col)
 }
@@ -111,7 +113,7 @@ fn local_at(
 ) -> Result<BodyVariable, Memory>
     ensures { IfOk result (λ local. local ≡ local_at place close name.now boolean within) }
 {
-    let in_scope = is_earlier(name.place, place) && (is_earlier(place, close) && !within);
+    let in_scope = stands_before(name.place, place) && (stands_before(place, close) && !within);
     Ok(BodyVariable {
         name: copied(alloc, name)?,
         boolean,
@@ -214,8 +216,8 @@ fn add_parameters(
 }
 
 /// The variables of a declaration by their numbers: its parameters, and then its locals.
-fn variables_of(alloc: Global, place: Place, decl: &Decl) -> Result<List<BodyVariable>, Memory>
-    ensures { IfOk result (λ variables. variables ≡ variables_of place decl.now) }
+fn body_variables_of(alloc: Global, place: Place, decl: &Decl) -> Result<List<BodyVariable>, Memory>
+    ensures { IfOk result (λ variables. variables ≡ body_variables_of place decl.now) }
 {
     let mut variables = List::new(alloc);
     add_parameters(&mut variables, alloc, decl.params.as_slice())?;
@@ -224,19 +226,19 @@ fn variables_of(alloc: Global, place: Place, decl: &Decl) -> Result<List<BodyVar
 }
 
 /// Those of the first declaration whose name is at the place `declared`; none if there is none.
-pub(crate) fn variables_at(
+pub(crate) fn body_variables_at(
     alloc: Global,
     place: Place,
     declared: Place,
     items: &[Item],
 ) -> Result<List<BodyVariable>, Memory>
-    ensures { IfOk result (λ variables. variables ≡ variables_at place declared items.now) }
+    ensures { IfOk result (λ variables. variables ≡ body_variables_at place declared items.now) }
 {
     for item in items {
         match item {
             Item::Method(decl) | Item::Task { decl, .. } => {
                 if is_same_place(decl.name.place, declared) {
-                    return variables_of(alloc, place, decl);
+                    return body_variables_of(alloc, place, decl);
                 }
             }
             Item::Regions(_) | Item::Cell(_) => {}

@@ -1,9 +1,9 @@
 //! The values of the variables that were in scope at a fault.
 ghost use Rattle.std.specs.Prelude.{◌≡◌, ◌++◌, IfOk, OnOk, option_copied, take};
 ghost use Rattle.seg_exec.specs.Arithmetic.{is_true};
-ghost use Rattle.run_notes.specs.VariablesShown.{active_decl, decl_of_row, here_remarks, here_text, items_of, later_texts, listed_texts, more_words, most_variables, scene_remarks, shown_in_scope, truth_text, value_text, variable_shown, variables_of_decl, variables_shown};
+ghost use Rattle.run_notes.specs.VariablesShown.{active_decl, decl_of_row, here_remarks, here_text, items_of, later_texts, listed_texts, more_words, most_variables, scene_remarks, shown_in_scope, truth_text, variable_shown, variable_value, variables_of_decl, variables_shown};
 
-use crate::body_variables::{BodyVariable, variables_at};
+use crate::body_variables::{BodyVariable, body_variables_at};
 use itoa::Buffer;
 use seg_exec::{ActiveCall, FaultScene};
 use std::alloc::Global;
@@ -24,7 +24,7 @@ fn truth_text(value: i32) -> &'static [u8]
 
 /// Appends the value of a variable, which holds a truth value or a number.
 fn push_value(text: &mut Bytes, boolean: bool, value: i32) -> Result<(), Memory>
-    ensures { OnOk result (text.new ≡ text.old ++ value_text boolean value) }
+    ensures { OnOk result (text.new ≡ text.old ++ variable_value boolean value) }
 {
     if boolean {
         text.push_all(truth_text(value))
@@ -181,7 +181,7 @@ fn variables_of_decl(
     match decl {
         None => Ok(List::new(alloc)),
         Some(decl) => {
-            let variables = variables_at(alloc, place, decl.place, items)?;
+            let variables = body_variables_at(alloc, place, decl.place, items)?;
             Ok(variables)
         }
     }
