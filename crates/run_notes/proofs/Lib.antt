@@ -2,3 +2,5 @@
 pub mod FirstIllegal
 -- The locals of a block.
 pub mod MoreLocals
+-- A text without a tree.
+pub mod NoTree

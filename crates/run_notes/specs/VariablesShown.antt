@@ -57,13 +57,13 @@ more_words count =
     if nat_lt most_variables count then codes ", and " ++ (decimal (count - most_variables) ++ codes " more") else []
 
 -- what the variables hold at the place of the fault
-abbrev pub here_text : List (List ℕ) → List ℕ
-here_text texts = codes "here " ++ (listed_texts (take most_variables texts) ++ more_words (length texts))
+abbrev pub at_fault_text : List (List ℕ) → List ℕ
+at_fault_text texts = codes "at the fault " ++ (listed_texts (take most_variables texts) ++ more_words (length texts))
 
 -- the same, if there are some
-abbrev pub here_remarks : List (List ℕ) → List (List ℕ)
-here_remarks [] = []
-here_remarks (text ∷ texts) = here_text (text ∷ texts) ∷ []
+abbrev pub at_fault_remarks : List (List ℕ) → List (List ℕ)
+at_fault_remarks [] = []
+at_fault_remarks (text ∷ texts) = at_fault_text (text ∷ texts) ∷ []
 
 -- the declaration of a task that was looked up
 abbrev pub decl_of_row : Program → Option TaskRow → Option Decl
@@ -89,4 +89,4 @@ items_of (Some tree) = tree.items
 abbrev pub scene_remarks : Program → Option TaskRow → List Item → Place → Option FaultScene → List (List ℕ)
 scene_remarks p row items place None = []
 scene_remarks p row items place (Some scene) =
-    here_remarks (variables_shown (variables_of_decl items place (active_decl p row scene.calls)) scene.vars)
+    at_fault_remarks (variables_shown (variables_of_decl items place (active_decl p row scene.calls)) scene.vars)

@@ -1,7 +1,7 @@
 //! The values of the variables that were in scope at a fault.
 ghost use Rattle.std.specs.Prelude.{◌≡◌, ◌++◌, IfOk, OnOk, option_copied, take};
 ghost use Rattle.seg_exec.specs.Arithmetic.{is_true};
-ghost use Rattle.run_notes.specs.VariablesShown.{active_decl, decl_of_row, here_remarks, here_text, items_of, later_texts, listed_texts, more_words, most_variables, scene_remarks, shown_in_scope, truth_text, variable_shown, variable_value, variables_of_decl, variables_shown};
+ghost use Rattle.run_notes.specs.VariablesShown.{active_decl, at_fault_remarks, at_fault_text, decl_of_row, items_of, later_texts, listed_texts, more_words, most_variables, scene_remarks, shown_in_scope, truth_text, variable_shown, variable_value, variables_of_decl, variables_shown};
 
 use crate::body_variables::{BodyVariable, body_variables_at};
 use itoa::Buffer;
@@ -130,22 +130,22 @@ fn shown_texts(texts: &[Bytes]) -> &[Bytes]
 }
 
 /// What the variables hold at the place of the fault.
-fn here_text(alloc: Global, texts: &[Bytes]) -> Result<Bytes, Memory>
-    ensures { IfOk result (λ text. text ≡ here_text texts.now) }
+fn at_fault_text(alloc: Global, texts: &[Bytes]) -> Result<Bytes, Memory>
+    ensures { IfOk result (λ text. text ≡ at_fault_text texts.now) }
 {
-    let mut text = Bytes::from_slice(alloc, b"here ")?;
+    let mut text = Bytes::from_slice(alloc, b"at the fault ")?;
     push_listed_texts(&mut text, shown_texts(texts))?;
     push_more(&mut text, texts.len())?;
     Ok(text)
 }
 
 /// Adds what the variables hold at the place of the fault, if there are some.
-fn push_here(remarks: &mut List<Bytes>, alloc: Global, texts: &[Bytes]) -> Result<(), Memory>
-    ensures { OnOk result (remarks.new ≡ remarks.old ++ here_remarks texts.now) }
+fn push_at_fault(remarks: &mut List<Bytes>, alloc: Global, texts: &[Bytes]) -> Result<(), Memory>
+    ensures { OnOk result (remarks.new ≡ remarks.old ++ at_fault_remarks texts.now) }
 {
     match texts {
         [] => Ok(()),
-        [_, ..] => remarks.push(here_text(alloc, texts)?),
+        [_, ..] => remarks.push(at_fault_text(alloc, texts)?),
     }
 }
 
@@ -232,7 +232,7 @@ pub(crate) fn push_scene_remarks(
         None => Ok(()),
         Some(scene) => {
             let texts = scene_texts(alloc, p, row, items, place, scene)?;
-            push_here(remarks, alloc, texts.as_slice())
+            push_at_fault(remarks, alloc, texts.as_slice())
         }
     }
 }
