@@ -1,12 +1,15 @@
 pub mod AcceptedRuns
+pub mod Counts
 pub mod Deterministic
 pub mod ElisionOrder
+pub mod Endings
 pub mod Execution
 pub mod Frames
+pub mod Independence
 pub mod Orders
 pub mod Ranks
 pub mod Segments
 pub mod Sequential
 pub mod numbering
-pub mod theorem
 pub mod results
+pub mod theorem

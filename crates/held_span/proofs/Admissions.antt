@@ -29,8 +29,8 @@ use Rattle.twe_machine.proofs.standing.Standing.{IsOver, Stands}
 use Rattle.twe_machine.proofs.tasks.MadeTasks.{free_by, made_row, orphan_by, yields_by}
 use Rattle.twe_machine.proofs.tasks.OtherTasks.{waits_row}
 use Rattle.isolation_laws.proofs.rows.LinksOfRows.{enabled_undone}
-use Rattle.effect_marks.specs.Marks.{AreMarksOf, seen_by}
-use Rattle.effect_marks.specs.declared.marks.EffectMarks.{EffectMarks}
+use Rattle.held_span.specs.Marks.{AreMarksOf, seen_by}
+use Rattle.held_span.specs.declared.marks.EffectMarks.{EffectMarks}
 use Rattle.held_span.specs.Ways.{IsOnWay, RowsInterfere}
 use Rattle.held_span.specs.declared.holders.Holders.{Holders}
 use Rattle.held_span.specs.declared.ways.Ways.{Ways}

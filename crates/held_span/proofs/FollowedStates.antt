@@ -20,7 +20,7 @@ use Rattle.twe_machine.proofs.lists.Places.{set_cases}
 use Rattle.twe_machine.proofs.standing.Standing.{Stands}
 use Rattle.twe_machine.proofs.tasks.MadeTasks.{mover_free}
 use Rattle.twe_machine.proofs.tasks.OtherTasks.{waits_row}
-use Rattle.effect_marks.proofs.Longer.{get-cases, get-kept, get-last}
+use Rattle.held_span.proofs.Longer.{get-cases, get-kept, get-last}
 use Rattle.span_profile.specs.heaviest_chain.Chains.{Leads}
 use Rattle.span_profile.specs.heaviest_chain.Nodes.{Node, SharesKey}
 use Rattle.held_span.specs.Freed.{IsBy, RunEntry}

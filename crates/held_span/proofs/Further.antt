@@ -2,7 +2,7 @@
 use Rattle.std.proofs.Common.{◌≡◌, ◌<◌, ◌⊎◌, inl, inr, ℕ, List, [], ◌∷◌, ◌++◌, length, Some, sym, ◌∙◌, subst, arith}
 use Rattle.std.specs.Prelude.{slice_get}
 use Rattle.std.proofs.lemmas.Option.{slice_get_within}
-use Rattle.effect_marks.proofs.Longer.{get-cases, get-kept, get-last}
+use Rattle.held_span.proofs.Longer.{get-cases, get-kept, get-last}
 use Rattle.span_profile.specs.heaviest_chain.Chains.{Leads}
 use Rattle.held_span.specs.inner.Paths.{IsPath}
 use Rattle.held_span.proofs.Paths.{path-map}

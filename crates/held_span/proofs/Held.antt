@@ -12,8 +12,8 @@ use Rattle.std.proofs.lemmas.Cmp.{nat_cmp_total, tied_itself}
 use Rattle.std.proofs.lemmas.List.{take_more}
 use Rattle.std.proofs.lemmas.List.Elements.{Contains-append_left, Contains-push, Contains-push_cases}
 use Rattle.std.proofs.lemmas.Map.Lookups.{exact_unsigned}
-use Rattle.effect_marks.specs.declared.marks.EffectMark.{EffectMark}
-use Rattle.effect_marks.specs.declared.marks.EffectMark.TheVariants.{Own, Rival}
+use Rattle.held_span.specs.declared.marks.EffectMark.{EffectMark}
+use Rattle.held_span.specs.declared.marks.EffectMark.TheVariants.{Own, Rival}
 use Rattle.held_span.specs.declared.holders.Holders.{Holders}
 use Rattle.held_span.specs.inner.Holding.{Holds, HoldsOne, IsEntry, IsForMark, IsInSet, IsLowestOf, KeepsRoom, lower}
 

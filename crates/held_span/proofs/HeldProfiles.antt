@@ -1,14 +1,14 @@
 -- The held profile of a run whose entries were all taken.
 use Rattle.std.proofs.Common.{List, length}
-use Rattle.schedule_bounds.specs.Timetables.{AreEarliest}
+use Rattle.span_profile.specs.Timetables.{AreEarliest}
 use Rattle.seg_journal.specs.declared.journal.Entry.{Entry}
 use Rattle.seg_journal.specs.declared.moves.Move.{Move}
 use Rattle.twe_base.specs.Limits.{Bounds}
 use Rattle.twe_program.specs.Program.{Program}
 use Rattle.twe_machine.specs.declared.state.State.{State}
 use Rattle.twe_machine.specs.Moves.{start_of}
-use Rattle.effect_marks.specs.declared.marks.EffectMarks.{EffectMarks}
-use Rattle.run_advice.specs.Advice.{IsCountedRun}
+use Rattle.held_span.specs.declared.marks.EffectMarks.{EffectMarks}
+use Rattle.span_profile.specs.Advice.{IsCountedRun}
 use Rattle.span_profile.proofs.Lists.{zip_length}
 use Rattle.span_profile.specs.declared.heaviest_chain.chains.Heaviest.{Heaviest}
 use Rattle.span_profile.specs.heaviest_chain.Chains.{IsHeaviest, Leads, weight_at}

@@ -7,9 +7,9 @@ use Rattle.wait_graph.specs.Link.{link_of}
 use Rattle.twe_machine.specs.declared.state.State.{State}
 use Rattle.twe_machine.specs.declared.state.TaskStatus.TheVariants.{Enabled}
 use Rattle.twe_machine.specs.Rows.{HasStatus}
-use Rattle.effect_marks.specs.Marks.{left_by}
-use Rattle.effect_marks.specs.declared.marks.EffectMark.{EffectMark}
-use Rattle.effect_marks.specs.declared.marks.EffectMarks.{EffectMarks}
+use Rattle.held_span.specs.Marks.{left_by}
+use Rattle.held_span.specs.declared.marks.EffectMark.{EffectMark}
+use Rattle.held_span.specs.declared.marks.EffectMarks.{EffectMarks}
 use Rattle.span_profile.specs.declared.recording.EntryKeys.{EntryKeys}
 use Rattle.held_span.specs.declared.freeing.Freeing.{Freeing}
 use Rattle.held_span.specs.declared.holders.Holders.{Holders}

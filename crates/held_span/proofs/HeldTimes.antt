@@ -4,9 +4,9 @@ use Rattle.std.proofs.Common.{◌≡◌, ◌<◌, ◌≤◌, inl, inr, ℕ, List
 use Rattle.std.specs.Prelude.{slice_index}
 use Rattle.std.proofs.lemmas.Option.{slice_get_within}
 use Rattle.prefix_tree.specs.declared.part.Part.{Part}
-use Rattle.schedule_bounds.specs.Timetables.{AreEarliest}
+use Rattle.span_profile.specs.Timetables.{AreEarliest}
 use Rattle.twe_machine.specs.declared.state.TaskRow.{TaskRow}
-use Rattle.effect_marks.specs.declared.marks.EffectMarks.{EffectMarks}
+use Rattle.held_span.specs.declared.marks.EffectMarks.{EffectMarks}
 use Rattle.span_profile.proofs.Lists.{zip_length}
 use Rattle.span_profile.specs.heaviest_chain.Chains.{Leads, weight_at}
 use Rattle.span_profile.specs.heaviest_chain.Nodes.{Node, SharesKey, weight_of}

@@ -18,7 +18,7 @@ use Rattle.twe_machine.proofs.links.ChainsStay.{chain_stays}
 use Rattle.twe_machine.proofs.lists.Places.{set_cases}
 use Rattle.twe_machine.proofs.standing.Standing.{Stands}
 use Rattle.twe_machine.proofs.tasks.Movers.{mover_there}
-use Rattle.effect_marks.proofs.Longer.{get-cases, get-kept, get-last}
+use Rattle.held_span.proofs.Longer.{get-cases, get-kept, get-last}
 use Rattle.held_span.specs.declared.ways.Ways.{Ways}
 use Rattle.held_span.specs.inner.Freeing.{Walks}
 use Rattle.run_laws.specs.Orders.{HasMade}

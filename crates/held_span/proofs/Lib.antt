@@ -1,6 +1,8 @@
 pub mod Admissions
 pub mod Ancestors
 pub mod Between
+pub mod Climbing
+mod Counting
 pub mod Covered
 pub mod FollowedStates
 pub mod Further
@@ -9,20 +11,29 @@ pub mod HeldProfiles
 pub mod HeldStates
 pub mod HeldTimes
 pub mod LedStates
+pub mod Longer
 pub mod MarkKeys
 pub mod Marked
+mod Most
 pub mod NotedEntries
 pub mod NotedKeys
 pub mod Numbered
+mod PairOrder
 pub mod Paths
+pub mod Placing
 pub mod Plans
+mod Ranked
+pub mod Rivalry
 pub mod SharedKeys
+pub mod Sharing
 pub mod SpannedNodes
 pub mod Spans
 pub mod Starts
 pub mod Statuses
 pub mod Steps
 pub mod StrandStages
+mod Tallied
 pub mod Told
+mod Totals
 pub mod Walked
 pub mod WalkedWays

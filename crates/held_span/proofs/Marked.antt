@@ -9,13 +9,13 @@ use Rattle.twe_base.proofs.Members.{contains-in, flat_map-in, in-contains}
 use Rattle.effect_sets.specs.Filled.{all_filled}
 use Rattle.effect_sets.specs.declared.effects.Effect.{Effect}
 use Rattle.twe_machine.specs.declared.state.TaskRow.{TaskRow}
-use Rattle.effect_marks.proofs.Longer.{listed-row}
-use Rattle.effect_marks.specs.Marks.{AreMarksOf, left_by, left_marks, seen_by, seen_marks}
-use Rattle.effect_marks.specs.Rivals.{AreNumbersOf, EffectList, IsNumberOf, interferes_found}
-use Rattle.effect_marks.specs.Tables.{numbers_in}
-use Rattle.effect_marks.specs.declared.marks.EffectMark.{EffectMark}
-use Rattle.effect_marks.specs.declared.marks.EffectMark.TheVariants.{Own, Rival}
-use Rattle.effect_marks.specs.declared.marks.EffectMarks.{EffectMarks}
+use Rattle.held_span.proofs.Longer.{listed-row}
+use Rattle.held_span.specs.Marks.{AreMarksOf, left_by, left_marks, seen_by, seen_marks}
+use Rattle.held_span.specs.Rivals.{AreNumbersOf, EffectList, IsNumberOf, interferes_found}
+use Rattle.held_span.specs.Tables.{numbers_in}
+use Rattle.held_span.specs.declared.marks.EffectMark.{EffectMark}
+use Rattle.held_span.specs.declared.marks.EffectMark.TheVariants.{Own, Rival}
+use Rattle.held_span.specs.declared.marks.EffectMarks.{EffectMarks}
 use Rattle.span_profile.proofs.Lists.{contains_cases, map_contains, zip_first}
 use Rattle.held_span.specs.inner.Keys.{effect_of}
 use Rattle.held_span.specs.inner.Spanning.{effect_lists}

@@ -24,7 +24,7 @@ use Rattle.twe_machine.specs.Runs.{is_done}
 use Rattle.twe_machine.proofs.lists.Places.{below_there}
 use Rattle.twe_machine.proofs.standing.Standing.{Stands}
 use Rattle.twe_machine.proofs.tasks.OtherTasks.{other}
-use Rattle.effect_marks.proofs.Longer.{get-cases, get-kept, get-last}
+use Rattle.held_span.proofs.Longer.{get-cases, get-kept, get-last}
 use Rattle.span_profile.proofs.Lists.{contains_none}
 use Rattle.span_profile.specs.LeadsTo.{LeadsTo, conflict, gives_value, makes, same_task}
 use Rattle.span_profile.specs.Strands.{Strand, admission, made_task}

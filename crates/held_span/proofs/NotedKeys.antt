@@ -10,9 +10,9 @@ use Rattle.seg_journal.specs.declared.moves.Kind.TheVariants.{Admit}
 use Rattle.twe_machine.specs.declared.state.State.{State}
 use Rattle.twe_machine.specs.declared.state.TaskRow.{TaskRow}
 use Rattle.twe_machine.specs.Runs.{is_done}
-use Rattle.effect_marks.specs.Marks.{left_by, seen_by}
-use Rattle.effect_marks.specs.declared.marks.EffectMark.{EffectMark}
-use Rattle.effect_marks.specs.declared.marks.EffectMarks.{EffectMarks}
+use Rattle.held_span.specs.Marks.{left_by, seen_by}
+use Rattle.held_span.specs.declared.marks.EffectMark.{EffectMark}
+use Rattle.held_span.specs.declared.marks.EffectMarks.{EffectMarks}
 use Rattle.span_profile.proofs.Lists.{contains_map, map_contains}
 use Rattle.span_profile.specs.Recorders.{node_with}
 use Rattle.span_profile.specs.declared.heaviest_chain.key.Key.{Key}

@@ -3,10 +3,10 @@ use Rattle.std.proofs.Common.{◌≡◌, ◌<◌, ◌+◌, ◌^◌, ◌++◌, �
 use Rattle.std.specs.List.{All, Contains}
 use Rattle.std.specs.Prelude.{slice_index_or, slice_set}
 use Rattle.std.proofs.lemmas.List.Elements.{Contains-get_or}
-use Rattle.effect_marks.specs.Marks.{left_by, seen_by}
-use Rattle.effect_marks.specs.declared.marks.EffectMark.{EffectMark}
-use Rattle.effect_marks.specs.declared.marks.EffectMark.TheVariants.{Own, Rival}
-use Rattle.effect_marks.specs.declared.marks.EffectMarks.{EffectMarks}
+use Rattle.held_span.specs.Marks.{left_by, seen_by}
+use Rattle.held_span.specs.declared.marks.EffectMark.{EffectMark}
+use Rattle.held_span.specs.declared.marks.EffectMark.TheVariants.{Own, Rival}
+use Rattle.held_span.specs.declared.marks.EffectMarks.{EffectMarks}
 use Rattle.held_span.specs.declared.holders.Holders.{Holders}
 use Rattle.held_span.specs.declared.ways.Ways.{Ways}
 use Rattle.held_span.specs.inner.Freeing.{AreNumbered, IsFreed, mark_keys}

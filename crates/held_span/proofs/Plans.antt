@@ -29,10 +29,10 @@ use Rattle.twe_machine.proofs.standing.Standing.{Stands}
 use Rattle.twe_machine.proofs.tasks.LeftAlone.{left_alone}
 use Rattle.twe_machine.proofs.tasks.Movers.{mover_there}
 use Rattle.wait_graph.specs.declared.tasks.Link.{Link}
-use Rattle.effect_marks.specs.declared.marks.EffectMarks.{EffectMarks}
+use Rattle.held_span.specs.declared.marks.EffectMarks.{EffectMarks}
 use Rattle.span_profile.proofs.Lists.{zip_length}
 use Rattle.span_profile.specs.Strands.{admission, made_task, strand_by_kind}
-use Rattle.effect_marks.specs.Rivals.{AreNumbersOf}
+use Rattle.held_span.specs.Rivals.{AreNumbersOf}
 use Rattle.held_span.specs.Freed.{RunEntry, stage_of, stages, stages_from}
 use Rattle.held_span.specs.inner.Spanning.{IsBelow, IsPlan, effect_lists}
 

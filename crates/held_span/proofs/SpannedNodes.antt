@@ -5,9 +5,9 @@ use Rattle.std.specs.List.{Contains}
 use Rattle.prefix_tree.specs.declared.part.Part.{Part}
 use Rattle.seg_journal.specs.declared.moves.Kind.TheVariants.{Admit}
 use Rattle.twe_machine.specs.declared.state.TaskRow.{TaskRow}
-use Rattle.effect_marks.specs.Marks.{AreMarksOf, seen_by}
-use Rattle.effect_marks.specs.declared.marks.EffectMark.{EffectMark}
-use Rattle.effect_marks.specs.declared.marks.EffectMarks.{EffectMarks}
+use Rattle.held_span.specs.Marks.{AreMarksOf, seen_by}
+use Rattle.held_span.specs.declared.marks.EffectMark.{EffectMark}
+use Rattle.held_span.specs.declared.marks.EffectMarks.{EffectMarks}
 use Rattle.span_profile.proofs.Lists.{zip_first, zip_length, zip_push, zip_second}
 use Rattle.span_profile.specs.declared.heaviest_chain.key.Key.{Key}
 use Rattle.span_profile.specs.heaviest_chain.Chains.{Leads}

@@ -12,9 +12,9 @@ use Rattle.twe_machine.specs.declared.state.State.{State}
 use Rattle.twe_machine.specs.declared.state.TaskRow.{TaskRow}
 use Rattle.twe_machine.specs.Moves.{start_of}
 use Rattle.twe_machine.specs.Runs.{IsReached, Legal}
-use Rattle.effect_marks.specs.Marks.{AreMarksOf}
-use Rattle.effect_marks.specs.declared.marks.EffectMarks.{EffectMarks}
-use Rattle.run_advice.specs.Advice.{IsCountedRun}
+use Rattle.held_span.specs.Marks.{AreMarksOf}
+use Rattle.held_span.specs.declared.marks.EffectMarks.{EffectMarks}
+use Rattle.span_profile.specs.Advice.{IsCountedRun}
 use Rattle.span_profile.proofs.Counted.{counted_legal}
 use Rattle.span_profile.proofs.Lists.{zip_length}
 use Rattle.span_profile.specs.heaviest_chain.Chains.{IsChain, IsChainOf, IsHeaviest, Leads, chain_weight, weight_at, weight_of_found}

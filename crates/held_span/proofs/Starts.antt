@@ -12,8 +12,8 @@ use Rattle.twe_machine.specs.declared.state.TaskStatus.TheVariants.{Enabled}
 use Rattle.twe_machine.specs.Moves.{start_of}
 use Rattle.twe_machine.specs.Rows.{HasStatus}
 use Rattle.twe_machine.proofs.tasks.MadeTasks.{none_enabled}
-use Rattle.effect_marks.specs.declared.marks.EffectMark.{EffectMark}
-use Rattle.effect_marks.specs.declared.marks.EffectMarks.{EffectMarks}
+use Rattle.held_span.specs.declared.marks.EffectMark.{EffectMark}
+use Rattle.held_span.specs.declared.marks.EffectMarks.{EffectMarks}
 use Rattle.span_profile.specs.Recorders.{IsRecorder}
 use Rattle.span_profile.specs.heaviest_chain.Built.{FrontHolds}
 use Rattle.held_span.specs.declared.spanning.Spanning.{Spanning}

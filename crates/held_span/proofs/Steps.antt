@@ -23,9 +23,9 @@ use Rattle.twe_machine.proofs.standing.Later.{Later}
 use Rattle.twe_machine.specs.Runs.{IsReached}
 use Rattle.twe_machine.proofs.standing.Standing.{Stands}
 use Rattle.twe_machine.proofs.tasks.Movers.{mover_there}
-use Rattle.effect_marks.specs.Marks.{seen_by}
-use Rattle.effect_marks.specs.declared.marks.EffectMark.{EffectMark}
-use Rattle.effect_marks.specs.declared.marks.EffectMarks.{EffectMarks}
+use Rattle.held_span.specs.Marks.{seen_by}
+use Rattle.held_span.specs.declared.marks.EffectMark.{EffectMark}
+use Rattle.held_span.specs.declared.marks.EffectMarks.{EffectMarks}
 use Rattle.span_profile.proofs.FuelTaken.{work_fits}
 use Rattle.span_profile.specs.Recorders.{HasKeysOf, Records, node_with}
 use Rattle.span_profile.specs.Strands.{strands}

@@ -6,9 +6,9 @@ use Rattle.seg_journal.specs.declared.moves.Move.{Move}
 use Rattle.twe_base.specs.Limits.{Bounds}
 use Rattle.twe_program.specs.Program.{Program}
 use Rattle.twe_machine.specs.declared.state.State.{State}
-use Rattle.schedule_bounds.specs.Timetables.{AreEarliest}
+use Rattle.span_profile.specs.Timetables.{AreEarliest}
 use Rattle.span_profile.specs.heaviest_chain.Chains.{IsChainOf, Leads, chain_weight, weight_at}
-use Rattle.run_advice.specs.Advice.{IsCountedRun}
+use Rattle.span_profile.specs.Advice.{IsCountedRun}
 use Rattle.held_span.specs.Freed.{FollowsFreed, stage_weight, stages}
 use Rattle.held_span.specs.Holds.{AreHolds}
 use Rattle.held_span.specs.declared.hold.Hold.{Hold}

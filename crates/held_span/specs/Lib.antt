@@ -1,5 +1,12 @@
 pub mod Freed
+pub mod Gathering
 pub mod HeldSpans
 pub mod Holds
+pub mod Marks
+pub mod MostHeld
+pub mod OfHolds
+pub mod Pairs
+pub mod Rivals
+pub mod Tables
 pub mod Ways
 pub mod inner

@@ -4,6 +4,8 @@ pub mod Holding
 pub mod Keys
 pub mod Noting
 pub mod Paths
+pub mod Ranks
 pub mod Spanning
+pub mod Tallies
 pub mod Told
 pub mod Walking

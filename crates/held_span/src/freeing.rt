@@ -2,16 +2,16 @@
 ghost use Rattle.std.specs.Prelude.{◌≡◌, ◌<◌, ◌^◌, [], ◌∷◌, ◌++◌, ℕ, length, OnOk, IfOk};
 ghost use Rattle.seg_journal.specs.declared.journal.End.TheVariants.{Made as HasMade};
 ghost use Rattle.wait_graph.specs.Link.{link_of};
-ghost use Rattle.effect_marks.specs.Marks.{left_by};
+ghost use Rattle.held_span.specs.Marks.{left_by};
 ghost use Rattle.held_span.specs.inner.Freeing.{AreNumbered, EnteredIf, HaveEntered, HaveLeft, IsFreed, IsNotedBy, mark_keys};
 ghost use Rattle.held_span.specs.inner.Holding.{HasRoomFor, Holds};
 ghost use Rattle.held_span.specs.inner.Walking.{AreWays, entered};
-ghost use Rattle.effect_marks.specs.declared.marks.EffectMark.{EffectMark as AnyMark};
+ghost use Rattle.held_span.specs.declared.marks.EffectMark.{EffectMark as AnyMark};
 
+use crate::EffectMarks;
 use crate::holders::Holders;
 use crate::keys::push_marks;
 use crate::ways::Ways;
-use effect_marks::EffectMarks;
 use seg_journal::End;
 use span_profile::EntryKeys;
 use span_profile::heaviest_chain::Key;

@@ -1,10 +1,10 @@
 //! The enabled tasks, by the marks that their effects leave.
 ghost use Rattle.std.specs.Prelude.{◌≡◌, ◌<◌, ◌↔◌, ◌⊎◌, ℕ, length, IfOk, OnOk};
 ghost use Rattle.std.specs.List.{All, Contains};
-ghost use Rattle.effect_marks.specs.declared.marks.EffectMark.{EffectMark as AnyMark};
+ghost use Rattle.held_span.specs.declared.marks.EffectMark.{EffectMark as AnyMark};
 ghost use Rattle.held_span.specs.inner.Holding.{HasRoomFor, Holds, HoldsOne, IsEntry, IsForMark, IsInSet, IsLowestOf, KeepsRoom, lower};
 
-use effect_marks::EffectMark;
+use crate::EffectMark;
 use std::alloc::Global;
 use std::collections::BTreeSet;
 use twe_base::{List, Memory};

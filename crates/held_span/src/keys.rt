@@ -2,7 +2,7 @@
 ghost use Rattle.std.specs.Prelude.{◌≡◌, ◌<◌, ◌+◌, ◌^◌, ◌++◌, length, map, All, OnOk};
 ghost use Rattle.held_span.specs.inner.Keys.{effect_of, mark_key};
 
-use effect_marks::EffectMark;
+use crate::EffectMark;
 use span_profile::heaviest_chain::Key;
 use std::alloc::Global;
 use twe_base::{List, Memory};

@@ -1,7 +1,7 @@
 -- What the program answers to a text.
 use Rattle.std.specs.Prelude.{◌≡◌, ℕ, true, false, List}
 use Rattle.twe_base.specs.declared.place.Place.{Place}
-use Rattle.open_brackets.specs.Open.{AreOpenAt}
+use Rattle.text_causes.specs.Open.{AreOpenAt}
 use Rattle.twe_ast.specs.declared.item.Ast.{Ast}
 use Rattle.twe_program.specs.Program.{Program}
 use Rattle.twe_frontend.specs.declared.refusal.Refusal.{Refusal}

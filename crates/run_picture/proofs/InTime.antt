@@ -13,7 +13,7 @@ use Rattle.twe_machine.specs.Moves.{start_of}
 use Rattle.twe_machine.specs.Runs.{counted}
 use Rattle.twe_machine.proofs.lists.Places.{below_there}
 use Rattle.twe_machine.proofs.replays.Replayed.{one_from}
-use Rattle.schedule_bounds.specs.Timetables.{AreEarliest}
+use Rattle.span_profile.specs.Timetables.{AreEarliest}
 use Rattle.span_profile.specs.LeadsTo.{LeadsTo}
 use Rattle.span_profile.specs.Strands.{Strand, strands, weight_of}
 use Rattle.span_profile.specs.heaviest_chain.Chains.{Leads, weight_at}

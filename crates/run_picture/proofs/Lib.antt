@@ -1,7 +1,12 @@
+pub mod Boxes
+pub mod Chosen
 pub mod Drawn
 pub mod HeldBars
 pub mod InTime
 pub mod Links
+pub mod Nest
+pub mod SetFlags
 pub mod Shown
 pub mod Tables
 pub mod Taken
+pub mod Values

@@ -1,4 +1,9 @@
 pub mod Bars
+pub mod Choice
+pub mod Elements
 pub mod HeldBars
+pub mod Markup
 pub mod Pictures
+pub mod Rows
+pub mod Shapes
 pub mod inner

@@ -3,16 +3,34 @@
 //! `specs/` says where each bar stands. A row is a task, and time is virtual: an entry takes as long as its weight, and begins
 //! when all entries that lead to it, or free it, have ended. A bar knows the entry from which its task comes and the one that
 //! gave it a value, and a picture the admissions that were held. How a picture is written is left to the crate above.
+//!
+//! Beside it stand which of many tasks have a row in a picture, and which row; and the elements of a picture as SVG, with what
+//! markup is whose tags nest. The laws say that each element is such markup.
 #![tactic(auto)]
 
 mod bars;
+mod best;
+mod choosing;
 mod drawing;
+mod elements;
+mod flags;
 mod laws;
+mod nesting_laws;
 mod numbers;
+mod rows;
+mod shapes;
 
 pub use bars::Mark;
+pub use choosing::choose_rows;
 pub use drawing::{Picture, draw};
+pub use elements::{push_attribute, push_escaped, push_measure};
+pub use flags::how_many;
 pub use laws::{
     a_hold_is_between_bars, a_run_ends_at_its_held_span, each_entry_has_one_bar,
     links_are_of_entries, what_leads_ends_first,
+};
+pub use nesting_laws::{elements_nest, words_are_text};
+pub use rows::rows_of;
+pub use shapes::{
+    push_plain_box, push_row_line, push_title_element, push_titled_box, push_upright, push_words_at,
 };

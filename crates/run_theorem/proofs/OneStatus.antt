@@ -11,7 +11,7 @@ use Rattle.twe_machine.specs.declared.state.FirstFault.{FirstFault}
 use Rattle.twe_machine.specs.declared.state.State.{State}
 use Rattle.twe_machine.specs.LowestFirst.{IsOver}
 use Rattle.twe_machine.specs.Runs.{IsOutcome, Legal, counted, state_after}
-use Rattle.status_laws.specs.Endings.{HasMetFault, HaveEndedAlike}
+use Rattle.determinism_laws.specs.Endings.{HasMetFault, HaveEndedAlike}
 use Rattle.command_line.specs.declared.command.Command.TheVariants.{Run}
 use Rattle.twe_io.specs.declared.answer.Answer.{Answer}
 use Rattle.text_answers.specs.Answers.{AnswersRun, Due}

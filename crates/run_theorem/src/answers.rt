@@ -11,7 +11,7 @@ ghost use Rattle.text_answers.specs.Answers.{IsAnswerTo};
 ghost use Rattle.twe_io.specs.declared.status.Status.TheVariants.{Done};
 
 use crate::accepted::accepted_programs_are_well_formed;
-use status_laws::ended_runs_end_as_the_execution;
+use determinism_laws::ended_runs_end_as_the_execution;
 use text_answers::deterministic_mains_have_one_result_text;
 use twe_frontend::{one_program, refused_or_accepted};
 

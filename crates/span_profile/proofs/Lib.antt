@@ -1,5 +1,7 @@
 pub mod Agreeing
+pub mod Bounds
 pub mod Counted
+pub mod CountedParts
 pub mod EntryRecords
 pub mod Explained
 pub mod FuelTaken
@@ -9,9 +11,16 @@ pub mod Lists
 pub mod Noted
 pub mod NumberSets
 pub mod Numbers
+pub mod OneMore
 pub mod OneProfile
+pub mod Paced
+pub mod PacedRuns
+pub mod PacedTimes
 pub mod PathReasons
 pub mod Ran
+pub mod SmallWorks
+pub mod Speed
+pub mod TaskTotals
 pub mod Tracking
 pub mod TrailSteps
 pub mod Watching

@@ -1,7 +1,16 @@
+pub mod Accepted
 pub mod Ascending
 pub mod Blanks
+pub mod Causes
+pub mod Fitting
 pub mod Inserting
+pub mod LineClauses
 pub mod OneLine
 pub mod Ordering
+pub mod PastedTree
 pub mod SameEffects
+pub mod SameNeeds
+pub mod SameNews
+pub mod SameSteps
 pub mod SameTree
+pub mod Unchanged

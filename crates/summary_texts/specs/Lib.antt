@@ -1,3 +1,8 @@
+pub mod Items
+pub mod News
 pub mod Order
-pub mod Texts
+pub mod Pasted
 pub mod Pasting
+pub mod Texts
+pub mod Writable
+pub mod inner

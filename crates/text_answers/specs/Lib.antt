@@ -1,5 +1,6 @@
 pub mod Answers
 pub mod Causes
+pub mod Due
 pub mod Input
 pub mod Running
 pub mod Starting

@@ -1,4 +1,6 @@
+pub mod Causing
+pub mod Counting
 pub mod Lines
 pub mod Tokens
-pub mod Counting
-pub mod Causing
+pub mod Walks
+pub mod Ways

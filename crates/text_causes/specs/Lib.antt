@@ -1,3 +1,4 @@
 pub mod Behind
 pub mod Causes
+pub mod Open
 pub mod inner

@@ -8,13 +8,13 @@ use Rattle.twe_machine.specs.declared.state.TaskRow.{TaskRow}
 use Rattle.twe_io.specs.declared.answer.Answer.{Answer}
 use Rattle.twe_io.specs.declared.status.Status.TheVariants.{Done}
 use Rattle.twe_io.specs.Answers.{on_out}
-use Rattle.held_pairs.specs.MostHeld.{HeldMost}
-use Rattle.held_pairs.specs.declared.pair.HeldPair.{HeldPair}
+use Rattle.held_span.specs.MostHeld.{HeldMost}
+use Rattle.held_span.specs.declared.pair.HeldPair.{HeldPair}
 use Rattle.held_span.specs.HeldSpans.{IsHeldProfile}
 use Rattle.held_span.specs.declared.hold.Hold.{Hold}
 use Rattle.held_span.specs.declared.spanning.HeldProfile.{HeldProfile}
-use Rattle.run_advice.specs.Advice.{AreMadeTasks, IsAdvice}
-use Rattle.run_advice.specs.declared.advising.Advice.{Advice}
+use Rattle.span_profile.specs.Advice.{AreMadeTasks, IsAdvice}
+use Rattle.span_profile.specs.declared.advising.Advice.{Advice}
 use Rattle.span_profile.specs.Profiles.{HasEarliest}
 use Rattle.span_profile.specs.Reasons.{HasSteps}
 use Rattle.twe_advise.specs.declared.paces.Pace.{Pace}

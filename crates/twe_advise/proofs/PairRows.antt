@@ -4,7 +4,7 @@ use Rattle.std.specs.Prelude.{codes}
 use Rattle.std.specs.List.{flat_map}
 use Rattle.twe_ast.specs.declared.item.Item.{Item}
 use Rattle.twe_program.specs.Program.{Program}
-use Rattle.held_pairs.specs.declared.pair.HeldPair.{HeldPair}
+use Rattle.held_span.specs.declared.pair.HeldPair.{HeldPair}
 use Rattle.twe_advise.specs.Holds.{holds_text, pair_row}
 
 pub some_holds : (p : Program) (items : List Item) (pairs : List HeldPair) → 0 < length pairs

@@ -5,8 +5,8 @@ use Rattle.twe_base.specs.Limits.{Bounds}
 use Rattle.twe_ast.specs.declared.item.Item.{Item}
 use Rattle.twe_program.specs.Program.{Program}
 use Rattle.text_answers.specs.Input.{program_part}
-use Rattle.text_programs.specs.Causes.{TextCause}
-use Rattle.journal_programs.specs.Due.{JournalDue}
+use Rattle.twe_report.specs.Causes.{TextCause}
+use Rattle.text_answers.specs.Due.{JournalDue}
 use Rattle.twe_io.specs.Ends.{Ends, EndsTell, SourceTells}
 use Rattle.twe_io.specs.Answers.{IsAnswered, on_out}
 use Rattle.twe_io.specs.declared.answer.Answer.{Answer}
@@ -16,12 +16,12 @@ use Rattle.twe_machine.specs.declared.state.TaskRow.{TaskRow}
 use Rattle.span_profile.specs.Profiles.{HasEarliest}
 use Rattle.span_profile.specs.Reasons.{HasSteps}
 use Rattle.span_profile.specs.declared.reasons.ChainStep.{ChainStep}
-use Rattle.held_pairs.specs.MostHeld.{HeldMost}
-use Rattle.held_pairs.specs.declared.pair.HeldPair.{HeldPair}
+use Rattle.held_span.specs.MostHeld.{HeldMost}
+use Rattle.held_span.specs.declared.pair.HeldPair.{HeldPair}
 use Rattle.held_span.specs.HeldSpans.{IsHeldProfile}
 use Rattle.held_span.specs.declared.hold.Hold.{Hold}
-use Rattle.run_advice.specs.Advice.{AreMadeTasks, IsAdvice}
-use Rattle.run_advice.specs.declared.totals.TaskWork.{TaskWork}
+use Rattle.span_profile.specs.Advice.{AreMadeTasks, IsAdvice}
+use Rattle.span_profile.specs.declared.totals.TaskWork.{TaskWork}
 use Rattle.twe_advise.specs.declared.words.Form.{Form}
 use Rattle.twe_advise.specs.declared.paces.Pace.{Pace}
 use Rattle.twe_advise.specs.Forms.{advice_text}

@@ -3,8 +3,8 @@ use Rattle.std.specs.Prelude.{◌++◌, ℕ, List}
 use Rattle.twe_ast.specs.declared.item.Item.{Item}
 use Rattle.twe_program.specs.Program.{Program}
 use Rattle.twe_machine.specs.declared.state.TaskRow.{TaskRow}
-use Rattle.held_pairs.specs.declared.pair.HeldPair.{HeldPair}
-use Rattle.run_advice.specs.declared.totals.TaskWork.{TaskWork}
+use Rattle.held_span.specs.declared.pair.HeldPair.{HeldPair}
+use Rattle.span_profile.specs.declared.totals.TaskWork.{TaskWork}
 use Rattle.span_profile.specs.declared.reasons.ChainStep.{ChainStep}
 use Rattle.held_span.specs.declared.hold.Hold.{Hold}
 use Rattle.twe_advise.specs.Chains.{chain_text}

@@ -2,9 +2,9 @@
 use Rattle.std.specs.Prelude.{◌++◌, ℕ, suc, List, [], ◌∷◌, codes, slice_get}
 use Rattle.twe_ast.specs.declared.item.Item.{Item}
 use Rattle.twe_program.specs.Program.{Program}
-use Rattle.held_pairs.specs.declared.pair.DeclaredEffect.{DeclaredEffect}
-use Rattle.held_pairs.specs.declared.pair.EffectPair.{EffectPair}
-use Rattle.held_pairs.specs.declared.pair.HeldPair.{HeldPair}
+use Rattle.held_span.specs.declared.pair.DeclaredEffect.{DeclaredEffect}
+use Rattle.held_span.specs.declared.pair.EffectPair.{EffectPair}
+use Rattle.held_span.specs.declared.pair.HeldPair.{HeldPair}
 use Rattle.run_texts.specs.TaskLabels.{decl_name}
 use Rattle.twe_advise.specs.Holds.{declared_effect}
 use Rattle.twe_advise.specs.Json.{comma_before}

@@ -1,7 +1,7 @@
 -- How long paced timetables take.
 use Rattle.std.specs.Prelude.{◌≡◌, ℕ, List, [], ◌∷◌, map}
 use Rattle.std.specs.List.{All}
-use Rattle.schedule_bounds.specs.Timetables.{IsPacedTime}
+use Rattle.span_profile.specs.Timetables.{IsPacedTime}
 use Rattle.twe_advise.specs.declared.paces.Pace.{Pace}
 
 -- the numbers of workers that have a row

@@ -2,11 +2,11 @@
 use Rattle.std.specs.Prelude.{◌-◌, ◌/◌, ◌%◌, ◌++◌, ℕ, suc, List, [], ◌∷◌, codes, decimal, drop, length, min}
 use Rattle.std.specs.List.{flat_map}
 use Rattle.twe_program.specs.declared.program.Decl.{Decl}
-use Rattle.schedule_bounds.specs.Schedules.{least_time}
-use Rattle.run_advice.specs.Advice.{parallelism_of}
-use Rattle.run_advice.specs.Totals.{total_of}
-use Rattle.run_advice.specs.declared.totals.TaskTotal.{TaskTotal}
-use Rattle.run_advice.specs.declared.totals.TaskWork.{TaskWork}
+use Rattle.span_profile.specs.Schedules.{least_time}
+use Rattle.span_profile.specs.Advice.{parallelism_of}
+use Rattle.span_profile.specs.Totals.{total_of}
+use Rattle.span_profile.specs.declared.totals.TaskTotal.{TaskTotal}
+use Rattle.span_profile.specs.declared.totals.TaskWork.{TaskWork}
 use Rattle.held_span.specs.declared.hold.Hold.{Hold}
 use Rattle.twe_machine.specs.declared.state.TaskRow.{TaskRow}
 use Rattle.twe_advise.specs.HeldTimes.{held_time}

@@ -1,6 +1,6 @@
 -- What the words ask for.
 use Rattle.std.specs.Prelude.{ℕ, List, Option, codes}
-use Rattle.text_programs.specs.Causes.{by_word}
+use Rattle.twe_report.specs.Causes.{by_word}
 use Rattle.twe_advise.specs.declared.words.Form.{Form}
 use Rattle.twe_advise.specs.declared.words.Form.TheVariants.{Tables, Json}
 

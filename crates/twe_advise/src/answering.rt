@@ -1,6 +1,6 @@
 //! The answer to the moves of a journal.
 ghost use Rattle.std.specs.Prelude.{◌≡◌, ℕ, IfOk, IsErrOf, length};
-ghost use Rattle.run_advice.specs.Totals.{CanBeSummed};
+ghost use Rattle.span_profile.specs.Totals.{CanBeSummed};
 ghost use Rattle.twe_machine.specs.declared.legal.Why.{Why};
 ghost use Rattle.twe_machine.specs.declared.replaying.ReplayFail.TheVariants.{Illegal};
 ghost use Rattle.twe_machine.specs.Replays.{IsFirstIllegal};
@@ -10,10 +10,9 @@ ghost use Rattle.twe_advise.specs.inner.Given.{AdvisedBy};
 use crate::forms::advice_text;
 use crate::paces::paces_of;
 use crate::request::Request;
-use held_pairs::{HeldPair, held_pairs};
-use held_span::{HeldProfile, held_profile};
-use run_advice::{Advice, advise};
+use held_span::{HeldPair, HeldProfile, held_pairs, held_profile};
 use seg_journal::{Limits, Move};
+use span_profile::{Advice, advise};
 use std::alloc::Global;
 use twe_base::Memory;
 use twe_io::{Answer, Status};

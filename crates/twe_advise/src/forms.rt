@@ -1,7 +1,7 @@
 //! What is written of a run, in the form that is asked for.
 ghost use Rattle.std.specs.Prelude.{◌≡◌, ◌<◌, IfOk};
 ghost use Rattle.std.specs.List.{All};
-ghost use Rattle.run_advice.specs.Totals.{CanBeSummed};
+ghost use Rattle.span_profile.specs.Totals.{CanBeSummed};
 ghost use Rattle.twe_advise.specs.Forms as forms;
 
 use crate::chains::push_chain_table;
@@ -12,9 +12,8 @@ use crate::json_holds::push_json_pairs;
 use crate::paces::Pace;
 use crate::text::{push_head, push_held, push_tasks_table, push_times_table};
 use crate::words::Form;
-use held_pairs::HeldPair;
-use held_span::HeldProfile;
-use run_advice::Advice;
+use held_span::{HeldPair, HeldProfile};
+use span_profile::Advice;
 use std::alloc::Global;
 use twe_ast::Item;
 use twe_base::{Bytes, Memory};

@@ -6,7 +6,7 @@ ghost use Rattle.twe_advise.specs.Holds.{declared_effect, numbered_effect, effec
 use crate::request::task_params;
 use crate::text::{push_column, push_small_column};
 use effect_sets::Effect;
-use held_pairs::{DeclaredEffect, HeldPair};
+use held_span::{DeclaredEffect, HeldPair};
 use itoa::Buffer;
 use run_texts::task_name;
 use text_meaning::push_effect;

@@ -1,7 +1,7 @@
 //! What is written as JSON: one object, on one line.
 ghost use Rattle.std.specs.Prelude.{◌≡◌, ◌<◌, ◌++◌, OnOk};
 ghost use Rattle.std.specs.List.{All, flat_map};
-ghost use Rattle.run_advice.specs.Totals.{CanBeSummed};
+ghost use Rattle.span_profile.specs.Totals.{CanBeSummed};
 ghost use Rattle.twe_advise.specs.Json.{comma_before, json_head, json_held, json_next_time, json_paces, json_tasks, json_time, json_times};
 ghost use Rattle.twe_advise.specs.Json as json;
 ghost use Rattle.twe_advise.specs.Texts.{word_number};
@@ -10,8 +10,7 @@ use crate::held_times::held_time;
 use crate::paces::Pace;
 use crate::text::{push_hundredths, push_number};
 use held_span::Hold;
-use run_advice::{TaskTotal, TaskWork, parallelism_of, total_of};
-use schedule_bounds::least_time;
+use span_profile::{TaskTotal, TaskWork, least_time, parallelism_of, total_of};
 use twe_base::{Bytes, Memory};
 use twe_machine::TaskRow;
 use twe_program::Decl;

@@ -6,7 +6,7 @@ use crate::holds::push_declared_effect;
 use crate::json::{push_comma, push_small};
 use crate::json_chains::push_json_place_of;
 use crate::text::push_number;
-use held_pairs::{DeclaredEffect, EffectPair, HeldPair};
+use held_span::{DeclaredEffect, EffectPair, HeldPair};
 use run_texts::task_name;
 use twe_ast::Item;
 use twe_base::{Bytes, Memory};

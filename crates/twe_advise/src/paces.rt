@@ -3,7 +3,7 @@ ghost use Rattle.std.specs.Prelude.{◌≡◌, ◌<◌, IfOk, length};
 ghost use Rattle.std.specs.List.{All};
 ghost use Rattle.twe_advise.specs.Paces.{ArePaces};
 
-use schedule_bounds::paced_time;
+use span_profile::paced_time;
 use std::alloc::Global;
 use twe_base::{List, Memory};
 

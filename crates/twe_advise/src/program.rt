@@ -6,15 +6,14 @@ use crate::answering::advice_answer;
 use crate::request::{Request, declarations};
 use crate::text::usage_text;
 use crate::words::{Form, form_of};
-use journal_programs::{JournalProgram, answer_with_journal};
 use seg_journal::{Limits, Move};
 use std::alloc::Global;
-use text_answers::cut_input;
-use text_programs::TextProgram;
+use text_answers::{JournalProgram, answer_with_journal, cut_input};
 use twe_base::{Bytes, Memory, Word};
 use twe_io::Answer;
 use twe_machine::ReplayFail;
 use twe_program::Prog;
+use twe_report::TextProgram;
 
 impl JournalProgram for Request {
     ghost gives = { λ request. AdviceGiven request.form request.items };

@@ -1,7 +1,7 @@
 //! What is written for people: lines of a head, and tables whose columns are twelve bytes wide; and the usage line.
 ghost use Rattle.std.specs.Prelude.{◌≡◌, ◌<◌, ◌++◌, IfOk, OnOk};
 ghost use Rattle.std.specs.List.{All, flat_map};
-ghost use Rattle.run_advice.specs.Totals.{CanBeSummed};
+ghost use Rattle.span_profile.specs.Totals.{CanBeSummed};
 ghost use Rattle.twe_advise.specs.Texts.{head_text, held_text, hundredths_text, number_column, task_rows, tasks_text, time_row, times_text, word_number};
 ghost use Rattle.twe_advise.specs.Texts as texts;
 ghost use Rattle.twe_advise.specs.Words.{advise_usage_text};
@@ -10,8 +10,7 @@ use crate::held_times::held_time;
 use crate::paces::Pace;
 use held_span::Hold;
 use itoa::Buffer;
-use run_advice::{TaskTotal, TaskWork, parallelism_of, total_of};
-use schedule_bounds::least_time;
+use span_profile::{TaskTotal, TaskWork, least_time, parallelism_of, total_of};
 use std::alloc::Global;
 use twe_base::{Bytes, Memory};
 use twe_machine::TaskRow;

@@ -4,9 +4,9 @@ ghost use Rattle.twe_io.specs.Ends.{ends, ends_tell, sink, source};
 
 use crate::words::Form;
 use std::alloc::Global;
-use text_programs::run_text_program;
 use twe_base::Word;
 use twe_io::{Sink, Source, Status};
+use twe_report::run_text_program;
 
 /// Reads the text of a program from the source, and after the first line that is exactly `%%` the text of a journal, and writes
 /// what the run of that journal could gain, as tables or as JSON. Without such a line the journal is empty. A journal may be

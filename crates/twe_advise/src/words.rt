@@ -2,8 +2,8 @@
 ghost use Rattle.std.specs.Prelude.{◌≡◌};
 ghost use Rattle.twe_advise.specs.Words.{form_of};
 
-use text_programs::by_word;
 use twe_base::Word;
+use twe_report::by_word;
 
 /// How the advice is written.
 #[derive(Clone, Copy, Debug, PartialEq, Eq)]

@@ -15,8 +15,8 @@ use Rattle.twe_io.specs.declared.status.Status.TheVariants.{Done, TooMany}
 use Rattle.effect_infer.specs.needs.Choices.{NoRuleFails, with_summaries}
 use Rattle.effect_infer.specs.Inferred.{AreEachLeast, AreLeast}
 use Rattle.text_meaning.specs.Meaning.{TextMeans}
-use Rattle.summary_pasting.specs.Pasted.{IsPastedText}
-use Rattle.summary_pasting.specs.Writable.{is_writable}
+use Rattle.summary_texts.specs.Pasted.{IsPastedText}
+use Rattle.summary_texts.specs.Writable.{is_writable}
 use Rattle.twe_annotate.specs.Answers.{AnnotateDue, AreLeastOf}
 use Rattle.twe_annotate.specs.Kept.{kept_lines, named_line, write_status}
 use Rattle.twe_annotate.specs.declared.words.Request.TheVariants.{Write}

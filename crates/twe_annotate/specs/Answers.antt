@@ -11,10 +11,10 @@ use Rattle.twe_io.specs.declared.status.Status.TheVariants.{Done, Refused, TooLo
 use Rattle.twe_io.specs.Ends.{Ends, EndsTell, SourceTells}
 use Rattle.twe_io.specs.Answers.{IsAnswered, on_err, on_out}
 use Rattle.text_meaning.specs.Meaning.{TextMeans, IsRefusedBefore}
-use Rattle.text_programs.specs.Causes.{TextCause}
+use Rattle.twe_report.specs.Causes.{TextCause}
 use Rattle.effect_infer.specs.needs.Choices.{NoRuleFails, with_summaries}
 use Rattle.effect_infer.specs.Inferred.{AreEachLeast}
-use Rattle.summary_pasting.specs.Pasted.{IsPastedText, IsReadOtherwise, IsTooLong}
+use Rattle.summary_texts.specs.Pasted.{IsPastedText, IsReadOtherwise, IsTooLong}
 use Rattle.summary_comparing.specs.CompareTexts.{AreCompareLines}
 use Rattle.summary_comparing.specs.ChainTexts.{AreNamedLines}
 use Rattle.summary_comparing.specs.declared.lines.CompareLines.{CompareLines}

@@ -9,7 +9,7 @@ use Rattle.twe_ast.specs.declared.item.Item.TheVariants.{Regions, Cell, Method, 
 use Rattle.twe_io.specs.declared.status.Status.{Status}
 use Rattle.twe_io.specs.declared.status.Status.TheVariants.{Done, TooMany}
 use Rattle.twe_report.specs.Texts.{place_text}
-use Rattle.summary_pasting.specs.Writable.{is_writable}
+use Rattle.summary_texts.specs.Writable.{is_writable}
 
 -- these words, a name, and its place: `too many effects: f at 3:5`
 abbrev pub named_line : List ℕ → Name → List ℕ

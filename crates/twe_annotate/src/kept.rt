@@ -9,7 +9,7 @@ ghost use Rattle.twe_annotate.specs.Kept as texts;
 use effect_sets::Summary;
 use itoa::Buffer;
 use std::alloc::Global;
-use summary_pasting::can_be_written;
+use summary_texts::can_be_written;
 use twe_ast::{Item, Name};
 use twe_base::{Bytes, Memory, Place};
 use twe_io::Status;

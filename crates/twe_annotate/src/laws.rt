@@ -16,13 +16,13 @@ ghost use Rattle.twe_program.specs.Program.{Program};
 ghost use Rattle.twe_frontend.specs.Accepted.{Accepted, IsMeaningOf};
 ghost use Rattle.pasting_laws.specs.Pasted.{IsPasted};
 ghost use Rattle.text_meaning.specs.Meaning.{TextMeans};
-ghost use Rattle.summary_pasting.specs.Pasted.{IsPastedText};
-ghost use Rattle.summary_pasting.specs.Writable.{is_writable};
+ghost use Rattle.summary_texts.specs.Pasted.{IsPastedText};
+ghost use Rattle.summary_texts.specs.Writable.{is_writable};
 ghost use Rattle.twe_annotate.specs.Answers.{AreLeastOf};
 ghost use Rattle.twe_annotate.specs.Kept.{kept_lines, write_status};
 ghost use Rattle.twe_annotate.specs.Verdicts.{AlwaysMeet, SomeMeet, SomeMeetingHolds};
 
-use summary_pasting::{pasted_texts_do_not_change, pasted_texts_stay_accepted};
+use summary_texts::{pasted_texts_do_not_change, pasted_texts_stay_accepted};
 
 /// There is no meeting, which is written `apart`, exactly if the effects interfere for no values of the parameters. For given
 /// values they interfere exactly if the equalities of one of the meetings hold, which `apart unless` writes. A meeting without

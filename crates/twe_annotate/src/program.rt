@@ -7,9 +7,9 @@ use crate::answering::answer_text;
 use crate::text::usage_text;
 use crate::words::{Request, requested_by};
 use std::alloc::Global;
-use text_programs::TextProgram;
 use twe_base::{Bytes, Memory, Word};
 use twe_io::Answer;
+use twe_report::TextProgram;
 
 impl TextProgram for Request {
     ghost asked = { requested_by };

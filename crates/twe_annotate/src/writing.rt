@@ -7,7 +7,7 @@ ghost use Rattle.text_meaning.specs.Meaning.{TextMeans};
 use crate::kept::{kept_lines, long_text, otherwise_text, write_status};
 use effect_infer::infer_each;
 use std::alloc::Global;
-use summary_pasting::{PasteFail, paste_summaries};
+use summary_texts::{PasteFail, paste_summaries};
 use text_meaning::Meaning;
 use twe_base::Memory;
 use twe_io::{Answer, Status};

@@ -6,13 +6,13 @@ use Rattle.twe_program.specs.Program.{Program}
 use Rattle.twe_machine.specs.declared.state.TaskRow.{TaskRow}
 use Rattle.held_span.specs.declared.hold.Hold.{Hold}
 use Rattle.run_picture.specs.declared.bars.Mark.{Mark}
-use Rattle.row_choice.specs.Choice.{how_many}
-use Rattle.row_choice.specs.Rows.{rows_from}
-use Rattle.svg_markup.specs.Elements.{Attribute, element, empty_element, valued}
-use Rattle.svg_markup.specs.Markup.{IsDocument, IsMarkup, IsText, is_text_byte, is_value_byte}
-use Rattle.svg_markup.specs.Shapes.{plain_box, title_element, words_at}
-use Rattle.svg_markup.proofs.Nest.{plain_box_nests, title_nests, words_nest}
-use Rattle.svg_markup.proofs.Values.{number_is_value}
+use Rattle.run_picture.specs.Choice.{how_many}
+use Rattle.run_picture.specs.Rows.{rows_from}
+use Rattle.run_picture.specs.Elements.{Attribute, element, empty_element, valued}
+use Rattle.run_picture.specs.Markup.{IsDocument, IsMarkup, IsText, is_text_byte, is_value_byte}
+use Rattle.run_picture.specs.Shapes.{plain_box, title_element, words_at}
+use Rattle.run_picture.proofs.Nest.{plain_box_nests, title_nests, words_nest}
+use Rattle.run_picture.proofs.Values.{number_is_value}
 use Rattle.twe_draw.specs.declared.words.AxisKind.{AxisKind}
 use Rattle.twe_draw.specs.Head.{arrow_words, axis, axis_words, chain_colour, colour, deterministic_colour, entry_colours, head_key, held_colour, legend, opening_words, picture_head, rows_left_out, rows_left_out_words, run_words, titles}
 use Rattle.twe_draw.specs.Pages.{picture_shapes, picture_text}

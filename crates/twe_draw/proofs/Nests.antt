@@ -12,9 +12,9 @@ use Rattle.twe_machine.specs.declared.state.TaskRow.{TaskRow}
 use Rattle.run_texts.specs.TaskLabels.{task_call}
 use Rattle.held_span.specs.declared.hold.Hold.{Hold}
 use Rattle.run_picture.specs.declared.bars.Mark.{Mark}
-use Rattle.svg_markup.specs.Markup.{IsMarkup, IsText, is_value_byte}
-use Rattle.svg_markup.specs.Shapes.{row_line, titled_box, upright, words_at}
-use Rattle.svg_markup.proofs.Nest.{plain_box_nests, row_line_nests, titled_box_nests, upright_nests, words_nest}
+use Rattle.run_picture.specs.Markup.{IsMarkup, IsText, is_value_byte}
+use Rattle.run_picture.specs.Shapes.{row_line, titled_box, upright, words_at}
+use Rattle.run_picture.proofs.Nest.{plain_box_nests, row_line_nests, titled_box_nests, upright_nests, words_nest}
 use Rattle.twe_draw.specs.declared.scale.Axis.{Axis}
 use Rattle.twe_draw.specs.Scale.{bar_begin, bar_end, held_begin, row_bottom, row_top, time_column, time_width}
 use Rattle.twe_draw.specs.Labels.{bar_title, held_title, wait_title}

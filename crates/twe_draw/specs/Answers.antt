@@ -4,8 +4,8 @@ use Rattle.seg_journal.specs.declared.moves.Move.{Move}
 use Rattle.twe_base.specs.Limits.{Bounds}
 use Rattle.twe_program.specs.Program.{Program}
 use Rattle.twe_machine.specs.declared.state.TaskRow.{TaskRow}
-use Rattle.text_programs.specs.Causes.{TextCause}
-use Rattle.journal_programs.specs.Due.{JournalDue}
+use Rattle.twe_report.specs.Causes.{TextCause}
+use Rattle.text_answers.specs.Due.{JournalDue}
 use Rattle.twe_io.specs.Ends.{Ends, EndsTell, SourceTells}
 use Rattle.twe_io.specs.Answers.{IsAnswered, on_out}
 use Rattle.twe_io.specs.declared.answer.Answer.{Answer}

@@ -3,7 +3,7 @@ use Rattle.std.specs.Prelude.{◌++◌, ℕ, List, [], Option, None, Some, codes
 use Rattle.seg_journal.specs.declared.journal.End.{End}
 use Rattle.seg_journal.specs.declared.journal.End.TheVariants as ends
 use Rattle.run_picture.specs.declared.bars.Mark.{Mark}
-use Rattle.svg_markup.specs.Shapes.{upright}
+use Rattle.run_picture.specs.Shapes.{upright}
 use Rattle.twe_draw.specs.declared.scale.Axis.{Axis}
 use Rattle.twe_draw.specs.Scale.{bar_begin, bar_end, row_bottom, row_top, time_column}
 use Rattle.twe_draw.specs.Shown.{row_at}

@@ -9,7 +9,7 @@ use Rattle.twe_program.specs.Program.{Program}
 use Rattle.twe_machine.specs.declared.state.TaskRow.{TaskRow}
 use Rattle.run_texts.specs.TaskLabels.{task_call}
 use Rattle.run_picture.specs.declared.bars.Mark.{Mark}
-use Rattle.svg_markup.specs.Shapes.{plain_box, row_line, titled_box, words_at}
+use Rattle.run_picture.specs.Shapes.{plain_box, row_line, titled_box, words_at}
 use Rattle.twe_draw.specs.declared.scale.Axis.{Axis}
 use Rattle.twe_draw.specs.Scale.{bar_begin, bar_end, row_bottom, row_top, time_column, time_width}
 use Rattle.twe_draw.specs.Labels.{bar_title, wait_title}

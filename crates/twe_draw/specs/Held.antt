@@ -4,7 +4,7 @@ use Rattle.twe_program.specs.Program.{Program}
 use Rattle.twe_machine.specs.declared.state.TaskRow.{TaskRow}
 use Rattle.held_span.specs.declared.hold.Hold.{Hold}
 use Rattle.run_picture.specs.declared.bars.Mark.{Mark}
-use Rattle.svg_markup.specs.Shapes.{titled_box}
+use Rattle.run_picture.specs.Shapes.{titled_box}
 use Rattle.twe_draw.specs.declared.scale.Axis.{Axis}
 use Rattle.twe_draw.specs.Labels.{held_title}
 use Rattle.twe_draw.specs.Scale.{bar_begin, held_begin, row_top, time_column, time_width}

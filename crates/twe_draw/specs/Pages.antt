@@ -5,8 +5,8 @@ use Rattle.twe_program.specs.Program.{Program}
 use Rattle.twe_machine.specs.declared.state.TaskRow.{TaskRow}
 use Rattle.held_span.specs.declared.hold.Hold.{Hold}
 use Rattle.run_picture.specs.declared.bars.Mark.{Mark}
-use Rattle.row_choice.specs.Choice.{how_many}
-use Rattle.row_choice.specs.Rows.{rows_from}
+use Rattle.run_picture.specs.Choice.{how_many}
+use Rattle.run_picture.specs.Rows.{rows_from}
 use Rattle.twe_draw.specs.declared.scale.Axis.{Axis}
 use Rattle.twe_draw.specs.declared.words.AxisKind.{AxisKind}
 use Rattle.twe_draw.specs.declared.words.Drawing.{Drawing}

@@ -5,7 +5,7 @@ use Rattle.std.specs.List.{fold}
 use Rattle.twe_machine.specs.declared.state.TaskRow.{TaskRow}
 use Rattle.run_picture.specs.Bars.{bar_length}
 use Rattle.run_picture.specs.declared.bars.Mark.{Mark}
-use Rattle.row_choice.specs.Choice.{AreShown}
+use Rattle.run_picture.specs.Choice.{AreShown}
 
 -- how many tasks have a row at most, if no more are of the heaviest chain
 abbrev pub most_rows : ℕ

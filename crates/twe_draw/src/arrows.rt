@@ -5,10 +5,9 @@ ghost use Rattle.twe_draw.specs.Arrows.{arrow, arrows_placed, arrows_shown, made
 
 use crate::scale::{Axis, bar_begin, bar_end, row_bottom, row_top, time_column};
 use crate::shown::row_at;
-use run_picture::Mark;
+use run_picture::{Mark, push_upright};
 use seg_journal::End;
 use std::alloc::Global;
-use svg_markup::push_upright;
 use twe_base::{Bytes, Memory};
 
 /// Appends an arrow of this class at this place, from one row to another.

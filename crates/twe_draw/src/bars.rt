@@ -7,11 +7,10 @@ ghost use Rattle.twe_draw.specs.Bars.{bar_placed, bar_shape, bar_shown, class_of
 use crate::labels::{bar_title, wait_title};
 use crate::scale::{Axis, bar_begin, bar_end, row_bottom, row_top, time_column, time_width};
 use crate::shown::row_at;
-use run_picture::Mark;
+use run_picture::{Mark, push_plain_box, push_row_line, push_titled_box, push_words_at};
 use run_texts::push_task_call;
 use seg_journal::{End, Kind};
 use std::alloc::Global;
-use svg_markup::{push_plain_box, push_row_line, push_titled_box, push_words_at};
 use twe_base::{Bytes, Memory};
 use twe_machine::TaskRow;
 use twe_program::Prog;

@@ -7,9 +7,9 @@ use crate::scale::picture_height;
 use crate::style::push_setting;
 use crate::words::AxisKind;
 use itoa::Buffer;
-use run_advice::parallelism_of;
+use run_picture::{push_plain_box, push_title_element, push_words_at};
+use span_profile::parallelism_of;
 use std::alloc::Global;
-use svg_markup::{push_plain_box, push_title_element, push_words_at};
 use twe_base::{Bytes, Memory};
 
 /// Appends hundredths, as `1.33`.

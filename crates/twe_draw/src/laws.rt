@@ -8,7 +8,7 @@ ghost use Rattle.twe_machine.specs.declared.state.TaskRow.{TaskRow};
 ghost use Rattle.held_span.specs.declared.hold.Hold.{Hold as AnyHold};
 ghost use Rattle.run_picture.specs.Pictures.{IsPicture};
 ghost use Rattle.run_picture.specs.declared.bars.Mark.{Mark as AnyMark};
-ghost use Rattle.svg_markup.specs.Markup.{IsDocument};
+ghost use Rattle.run_picture.specs.Markup.{IsDocument};
 ghost use Rattle.twe_draw.specs.Bars.{bar_shown};
 ghost use Rattle.twe_draw.specs.Marks.{marked, marks_of};
 ghost use Rattle.twe_draw.specs.Pages.{picture_text};

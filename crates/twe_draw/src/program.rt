@@ -4,15 +4,15 @@ ghost use Rattle.twe_draw.specs.Words.{asked_drawing, draw_usage_text};
 
 use crate::page::drawing_text;
 use crate::words::{Drawing, asked_drawing, usage_text};
-use journal_programs::{JournalProgram, answer_with_journal};
 use run_picture::draw;
 use seg_journal::{Limits, Move};
 use std::alloc::Global;
-use text_programs::TextProgram;
+use text_answers::{JournalProgram, answer_with_journal};
 use twe_base::{Bytes, Memory, Word};
 use twe_io::{Answer, Status};
 use twe_machine::ReplayFail;
 use twe_program::Prog;
+use twe_report::TextProgram;
 
 impl TextProgram for Drawing {
     ghost asked = { asked_drawing };

@@ -3,8 +3,7 @@ ghost use Rattle.std.specs.Prelude.{◌≡◌, ◌<◌, ◌-◌, ◌^◌, ℕ, I
 ghost use Rattle.run_picture.specs.Bars.{bar_length};
 ghost use Rattle.twe_draw.specs.Shown.{AreShownTasks, chain_flags, row_at, with_flag, with_entry_work, works_of};
 
-use row_choice::choose_rows;
-use run_picture::Mark;
+use run_picture::{Mark, choose_rows};
 use std::alloc::Global;
 use twe_base::{List, Memory};
 use twe_machine::TaskRow;

@@ -1,7 +1,7 @@
 -- What the program answers to an input, and why.
 use Rattle.std.specs.Prelude.{◌≡◌, ℕ, Bool, List, None, Some, false, true}
 use Rattle.text_answers.specs.Input.{has_mark, journal_part, program_part}
-use Rattle.text_programs.specs.Causes.{TextCause}
+use Rattle.twe_report.specs.Causes.{TextCause}
 use Rattle.twe_io.specs.declared.answer.Answer.{Answer}
 use Rattle.twe_io.specs.declared.status.Status.{Status}
 use Rattle.twe_io.specs.declared.status.Status.TheVariants.{Done}

@@ -7,9 +7,9 @@ use crate::alone::usage_text;
 use crate::inputs::answer_wish;
 use crate::words::{Wish, wish_by};
 use std::alloc::Global;
-use text_programs::TextProgram;
 use twe_base::{Bytes, Memory, Word};
 use twe_io::Answer;
+use twe_report::TextProgram;
 
 impl TextProgram for Wish {
     ghost asked = { wish_of };

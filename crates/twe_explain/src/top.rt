@@ -7,9 +7,9 @@ ghost use Rattle.twe_io.specs.Ends.{ends, ends_tell, sink, source};
 use crate::alone::text_alone;
 use crate::words::Wish;
 use std::alloc::Global;
-use text_programs::run_text_program;
 use twe_base::{Bytes, Word};
 use twe_io::{Answer, Sink, Source, Status, tell};
+use twe_report::run_text_program;
 
 /// Writes a text that the words ask for by themselves.
 fn tell_alone<S: Source, O: Sink, E: Sink>(

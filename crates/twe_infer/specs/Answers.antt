@@ -14,7 +14,7 @@ use Rattle.twe_io.specs.declared.status.Status.TheVariants.{Done, Refused, TooMa
 use Rattle.twe_io.specs.Ends.{Ends, EndsTell, SourceTells}
 use Rattle.twe_io.specs.Answers.{IsAnswered, on_err, on_out}
 use Rattle.text_meaning.specs.Meaning.{TextMeans, IsRefusedBefore}
-use Rattle.text_programs.specs.Causes.{TextCause, without_words}
+use Rattle.twe_report.specs.Causes.{TextCause, without_words}
 use Rattle.twe_infer.specs.declared.program.Inferring.{Inferring}
 use Rattle.twe_infer.specs.Texts.{summary_lines_of, infer_usage_text, too_many_text}
 

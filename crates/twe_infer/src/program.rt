@@ -4,9 +4,9 @@ ghost use Rattle.twe_infer.specs.Texts.{infer_usage_text};
 
 use crate::answering::answer_text;
 use std::alloc::Global;
-use text_programs::{TextProgram, without_words};
 use twe_base::{Bytes, Memory, Word};
 use twe_io::Answer;
+use twe_report::{TextProgram, without_words};
 
 /// The least summaries of a text: the one thing that the program writes.
 #[derive(Clone, Copy, Debug)]

@@ -4,9 +4,9 @@ ghost use Rattle.twe_io.specs.Ends.{ends, ends_tell, sink, source};
 
 use crate::program::Inferring;
 use std::alloc::Global;
-use text_programs::run_text_program;
 use twe_base::Word;
 use twe_io::{Sink, Source, Status};
+use twe_report::run_text_program;
 
 /// Reads the text of a program from the source, and writes the least summary of each of its methods, a line for each.
 ///

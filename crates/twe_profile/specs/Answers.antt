@@ -9,8 +9,8 @@ use Rattle.span_profile.specs.Profiles.{IsProfile}
 use Rattle.twe_io.specs.declared.answer.Answer.{Answer}
 use Rattle.twe_io.specs.declared.status.Status.{Status}
 use Rattle.twe_io.specs.declared.status.Status.TheVariants.{Done}
-use Rattle.text_programs.specs.Causes.{TextCause, without_words}
-use Rattle.journal_programs.specs.Due.{JournalDue}
+use Rattle.twe_report.specs.Causes.{TextCause, without_words}
+use Rattle.text_answers.specs.Due.{JournalDue}
 use Rattle.twe_profile.specs.declared.program.Profiling.{Profiling}
 use Rattle.twe_profile.specs.Texts.{profile_text, profile_usage_text}
 

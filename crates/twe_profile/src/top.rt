@@ -4,9 +4,9 @@ ghost use Rattle.twe_profile.specs.Answers.{AnswersProfile};
 
 use crate::program::Profiling;
 use std::alloc::Global;
-use text_programs::run_text_program;
 use twe_base::Word;
 use twe_io::{Sink, Source, Status};
+use twe_report::run_text_program;
 
 /// Reads the text of a program from the source, and after the first line that is exactly `%%` the text of a journal. Writes the
 /// work and the span of the journal, and its heaviest chain. Without such a line the journal is empty. A journal may be

@@ -3,8 +3,8 @@ use Rattle.std.specs.Prelude.{◌≡◌, ◌<◌, ◌≤◌, ℕ, Bool, false, L
 use Rattle.std.specs.BTreeSet.{BTreeSet, contains}
 use Rattle.std.specs.List.{Contains}
 use Rattle.std.specs.Ordering.{nat_cmp}
-use Rattle.effect_marks.specs.declared.marks.EffectMark.{EffectMark}
-use Rattle.effect_marks.specs.declared.marks.EffectMark.TheVariants.{Own, Rival}
+use Rattle.held_span.specs.declared.marks.EffectMark.{EffectMark}
+use Rattle.held_span.specs.declared.marks.EffectMark.TheVariants.{Own, Rival}
 use Rattle.held_span.specs.declared.holders.Holders.{Holders}
 
 -- whether a set that was found has the task

@@ -1,7 +1,7 @@
 -- The keys of marks.
 use Rattle.std.specs.Prelude.{◌+◌, ℕ}
-use Rattle.effect_marks.specs.declared.marks.EffectMark.{EffectMark}
-use Rattle.effect_marks.specs.declared.marks.EffectMark.TheVariants.{Own, Rival}
+use Rattle.held_span.specs.declared.marks.EffectMark.{EffectMark}
+use Rattle.held_span.specs.declared.marks.EffectMark.TheVariants.{Own, Rival}
 use Rattle.span_profile.specs.declared.heaviest_chain.key.Key.{Key}
 use Rattle.span_profile.specs.declared.heaviest_chain.key.Key.TheVariants.{Task, Value}
 

@@ -14,10 +14,10 @@ use Rattle.twe_machine.specs.declared.state.TaskStatus.TheVariants.{Enabled}
 use Rattle.twe_machine.specs.Rows.{HasStatus}
 use Rattle.twe_machine.specs.Runs.{Legal, state_after}
 use Rattle.run_laws.specs.Orders.{HasMade}
-use Rattle.effect_marks.specs.Marks.{AreMarksOf, left_by}
-use Rattle.effect_marks.specs.Rivals.{EffectList}
-use Rattle.effect_marks.specs.declared.marks.EffectMark.{EffectMark}
-use Rattle.effect_marks.specs.declared.marks.EffectMarks.{EffectMarks}
+use Rattle.held_span.specs.Marks.{AreMarksOf, left_by}
+use Rattle.held_span.specs.Rivals.{EffectList}
+use Rattle.held_span.specs.declared.marks.EffectMark.{EffectMark}
+use Rattle.held_span.specs.declared.marks.EffectMarks.{EffectMarks}
 use Rattle.span_profile.specs.Recorders.{Records}
 use Rattle.span_profile.specs.Strands.{Strand}
 use Rattle.span_profile.specs.declared.heaviest_chain.key.Key.{Key}

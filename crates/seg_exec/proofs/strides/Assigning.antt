@@ -9,10 +9,12 @@ use Rattle.twe_program.specs.Statement.{Statement}
 use Rattle.seg_exec.specs.declared.active.ActiveCall.{ActiveCall}
 use Rattle.seg_exec.specs.declared.strides.assign.Carried.{Carried}
 use Rattle.seg_exec.specs.declared.strides.assign.Carried.TheVariants.{Done, Faulted, Left}
+use Rattle.seg_exec.specs.declared.strides.assign.Target.{Target}
+use Rattle.seg_exec.specs.declared.strides.assign.Target.TheVariants.{Var, Cell}
 use Rattle.seg_exec.specs.declared.strides.value.Fault.{Fault}
 use Rattle.seg_exec.specs.Access.{HasWritten, Ways}
 use Rattle.seg_exec.specs.Cells.{cell_number, element_number}
-use Rattle.seg_exec.specs.inner.strides.Assignments.{Does, MayDo, MayWriteAt, WritesAt, executing, to_cell, to_element, to_variable}
+use Rattle.seg_exec.specs.inner.strides.Assignments.{Does, MayDo, MayWriteAt, WritesAt, executing, giving_to, to_element, to_target}
 use Rattle.seg_exec.specs.inner.steps.Continuations.{Config, Continuation, Evaluate, GiveVar, GiveCell, GiveElement}
 use Rattle.seg_exec.specs.inner.steps.Reached.{MayRequest, Served}
 use Rattle.seg_exec.specs.inner.steps.Steps.{Step, executed, on, step_of, written_at}
@@ -27,31 +29,24 @@ module _ {C : Type 0} (p : Program) (ways : Ways C) where
   pub may_at_vars : (e : Expression) (vs vars : List ℤ) (cells : C) → vs ≡ vars → MayEvaluate p ways e vars cells → MayEvaluate p ways e vs cells
   may_at_vars e vs vars cells same m = subst (λ (xs : List ℤ). MayEvaluate p ways e xs cells) (sym same) m
 
-  module _ (value : Expression) (var : ℕ) where
-    pub var_may : (vars : List ℤ) (cells : C) → MayDo p ways (to_variable value var) vars cells → MayEvaluate p ways value vars cells
-    var_may vars cells m = record { work = GiveVar var ∷ m.work; operands = m.operands; fuel = m.fuel; calls = m.calls; prints = m.prints; may = m.may }
+  module _ (value : Expression) (target : Target) where
+    pub target_may : (vars : List ℤ) (cells : C) → MayDo p ways (to_target value target) vars cells → MayEvaluate p ways value vars cells
+    target_may vars cells m = record { work = giving_to target ∷ m.work; operands = m.operands; fuel = m.fuel; calls = m.calls; prints = m.prints; may = m.may }
 
-    pub var_fault : (vars : List ℤ) (old new : C) (fault : Fault) → EvaluatesTo p ways value vars old (Err fault) new → Does p ways (to_variable value var) vars old (Faulted fault) vars new
-    var_fault vars old new fault h work operands fuel calls prints =
-        ends_alike p ways _ (fault_ending fault) (GiveVar var ∷ work) work operands operands vars fuel calls new prints (h (GiveVar var ∷ work) operands fuel calls prints)
+    pub target_fault : (vars : List ℤ) (old new : C) (fault : Fault) → EvaluatesTo p ways value vars old (Err fault) new → Does p ways (to_target value target) vars old (Faulted fault) vars new
+    target_fault vars old new fault h work operands fuel calls prints =
+        ends_alike p ways _ (fault_ending fault) (giving_to target ∷ work) work operands operands vars fuel calls new prints (h (giving_to target ∷ work) operands fuel calls prints)
 
-    pub var_done : (vars : List ℤ) (old new : C) (v : ℤ) → EvaluatesTo p ways value vars old (Ok v) new → Does p ways (to_variable value var) vars old Done (slice_set vars var v) new
-    var_done vars old new v h work operands fuel calls prints =
-        then_goes p ways _ _ _ (h (GiveVar var ∷ work) operands fuel calls prints) (silent p ways (stand (GiveVar var ∷ work) (v ∷ operands) vars fuel calls new prints) _ refl)
+  pub var_done : (value : Expression) (var : ℕ) (vars : List ℤ) (old new : C) (v : ℤ) → EvaluatesTo p ways value vars old (Ok v) new → Does p ways (to_target value (Var var)) vars old Done (slice_set vars var v) new
+  var_done value var vars old new v h work operands fuel calls prints =
+      then_goes p ways _ _ _ (h (GiveVar var ∷ work) operands fuel calls prints) (silent p ways (stand (GiveVar var ∷ work) (v ∷ operands) vars fuel calls new prints) _ refl)
 
   module _ (value : Expression) (cell : ℕ) where
-    pub cell_may : (vars : List ℤ) (cells : C) → MayDo p ways (to_cell value cell) vars cells → MayEvaluate p ways value vars cells
-    cell_may vars cells m = record { work = GiveCell cell ∷ m.work; operands = m.operands; fuel = m.fuel; calls = m.calls; prints = m.prints; may = m.may }
-
-    pub cell_fault : (vars : List ℤ) (old new : C) (fault : Fault) → EvaluatesTo p ways value vars old (Err fault) new → Does p ways (to_cell value cell) vars old (Faulted fault) vars new
-    cell_fault vars old new fault h work operands fuel calls prints =
-        ends_alike p ways _ (fault_ending fault) (GiveCell cell ∷ work) work operands operands vars fuel calls new prints (h (GiveCell cell ∷ work) operands fuel calls prints)
-
-    pub cell_may_write : (vars : List ℤ) (old mid : C) (v : ℤ) → MayDo p ways (to_cell value cell) vars old → EvaluatesTo p ways value vars old (Ok v) mid → ways.may_write mid (cell_number p cell)
+    pub cell_may_write : (vars : List ℤ) (old mid : C) (v : ℤ) → MayDo p ways (to_target value (Cell cell)) vars old → EvaluatesTo p ways value vars old (Ok v) mid → ways.may_write mid (cell_number p cell)
     cell_may_write vars old mid v m h =
         may_now p ways (stand (GiveCell cell ∷ m.work) (v ∷ m.operands) vars m.fuel m.calls mid m.prints) (may_then p ways _ _ m.may (h (GiveCell cell ∷ m.work) m.operands m.fuel m.calls m.prints))
 
-    pub cell_done : (vars : List ℤ) (old mid new : C) (v : ℤ) → EvaluatesTo p ways value vars old (Ok v) mid → HasWritten ways mid (cell_number p cell) v new → Does p ways (to_cell value cell) vars old Done vars new
+    pub cell_done : (vars : List ℤ) (old mid new : C) (v : ℤ) → EvaluatesTo p ways value vars old (Ok v) mid → HasWritten ways mid (cell_number p cell) v new → Does p ways (to_target value (Cell cell)) vars old Done vars new
     cell_done vars old mid new v h has work operands fuel calls prints =
         then_goes p ways _ _ _ (h (GiveCell cell ∷ work) operands fuel calls prints)
         (one_step p ways (stand (GiveCell cell ∷ work) (v ∷ operands) vars fuel calls mid prints) (stand work operands vars fuel calls new prints) (refl, refl, has, refl))

@@ -2,7 +2,7 @@
 ghost use Rattle.std.specs.Prelude.{◌≡◌, slice_set};
 ghost use Rattle.seg_exec.specs.Access.{ways_of};
 ghost use Rattle.seg_exec.specs.inner.steps.Bodies.{with_active};
-ghost use Rattle.seg_exec.specs.inner.strides.Assignments.{Does, MayDo, MayWriteAt, WritesAt, executing, to_cell, to_element, to_variable};
+ghost use Rattle.seg_exec.specs.inner.strides.Assignments.{Does, MayDo, MayWriteAt, WritesAt, executing, to_element, to_target};
 
 use crate::cells::Cells;
 use crate::elements::{cell_number, element_number};
@@ -23,6 +23,15 @@ pub(crate) enum Carried {
     Left,
 }
 
+/// Where the value of an expression is put.
+#[derive(Clone, Copy, Debug)]
+pub(crate) enum Target {
+    /// In the variable of this number.
+    Var(u32),
+    /// In the cell of this number.
+    Cell(u32),
+}
+
 /// Assigns a value to a variable, if there is such a variable.
 fn put_var(vars: &mut Variables, var: u32, value: i32)
     ensures { vars.new ≡ with_active (slice_set vars.old.active var value) vars.old }
@@ -33,18 +42,18 @@ fn put_var(vars: &mut Variables, var: u32, value: i32)
     }
 }
 
-/// Evaluates an expression and assigns its value to a variable.
+/// Evaluates an expression and puts its value where it belongs.
 #[inline(always)]
-fn set_var<C: Cells>(
-    var: u32,
+fn set<C: Cells>(
+    target: Target,
     value: &Expr,
     p: &Prog,
     vars: &mut Variables,
     cells: &mut C,
 ) -> Carried
-    requires { MayDo p.now (ways_of C.known C.may_read C.may_write C.rule) (to_variable value.now var) vars.old.active cells.old }
+    requires { MayDo p.now (ways_of C.known C.may_read C.may_write C.rule) (to_target value.now target) vars.old.active cells.old }
     ensures does { Does p.now (ways_of C.known C.may_read C.may_write C.rule)
-        (to_variable value.now var) vars.old.active cells.old result vars.new.active cells.new }
+        (to_target value.now target) vars.old.active cells.old result vars.new.active cells.new }
     ensures callers { vars.new.callers ≡ vars.old.callers }
 {
     if !is_plain(value) {
@@ -52,36 +61,16 @@ fn set_var<C: Cells>(
     }
     match value_of(value, p, vars.as_slice(), cells) {
         Err(fault) => Carried::Faulted(fault),
-        Ok(value) => {
-            put_var(vars, var, value);
-            Carried::Done
-        }
-    }
-}
-
-/// Evaluates an expression and assigns its value to a cell.
-#[inline(always)]
-fn set_cell<C: Cells>(
-    cell: u32,
-    value: &Expr,
-    p: &Prog,
-    vars: &mut Variables,
-    cells: &mut C,
-) -> Carried
-    requires { MayDo p.now (ways_of C.known C.may_read C.may_write C.rule) (to_cell value.now cell) vars.old.active cells.old }
-    ensures does { Does p.now (ways_of C.known C.may_read C.may_write C.rule)
-        (to_cell value.now cell) vars.old.active cells.old result vars.new.active cells.new }
-    ensures callers { vars.new.callers ≡ vars.old.callers }
-{
-    if !is_plain(value) {
-        return Carried::Left;
-    }
-    match value_of(value, p, vars.as_slice(), cells) {
-        Err(fault) => Carried::Faulted(fault),
-        Ok(value) => {
-            cells.set(cell_number(p, cell), value);
-            Carried::Done
-        }
+        Ok(value) => match target {
+            Target::Var(var) => {
+                put_var(vars, var, value);
+                Carried::Done
+            }
+            Target::Cell(cell) => {
+                cells.set(cell_number(p, cell), value);
+                Carried::Done
+            }
+        },
     }
 }
 
@@ -149,9 +138,9 @@ pub(crate) fn assign<C: Cells>(
     ensures callers { vars.new.callers ≡ vars.old.callers }
 {
     match &stmt.kind {
-        StmtKind::Let { var, value } => set_var(*var, value, p, vars, cells),
-        StmtKind::Set { var, value } => set_var(*var, value, p, vars, cells),
-        StmtKind::SetCell { cell, value, .. } => set_cell(*cell, value, p, vars, cells),
+        StmtKind::Let { var, value } => set(Target::Var(*var), value, p, vars, cells),
+        StmtKind::Set { var, value } => set(Target::Var(*var), value, p, vars, cells),
+        StmtKind::SetCell { cell, value, .. } => set(Target::Cell(*cell), value, p, vars, cells),
         StmtKind::SetAt {
             array,
             index,

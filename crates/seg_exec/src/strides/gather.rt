@@ -1,6 +1,6 @@
 //! The arguments of a call that call no method, evaluated at once.
 ghost use Rattle.std.specs.Prelude.{◌≡◌, ◌≤◌, true, [], Some, IfOk, IfSome, drop, length, option_copied, slice_get};
-ghost use Rattle.twe_program.specs.Expression.{arguments_of, no_more};
+ghost use Rattle.twe_program.specs.Expression.{argument, arguments_of, no_more};
 ghost use Rattle.seg_exec.specs.declared.steps.continuation.Goal.TheVariants.{Enter};
 ghost use Rattle.seg_exec.specs.inner.steps.Continuations.{Gather, Take};
 ghost use Rattle.seg_exec.specs.inner.steps.Steps.{entering, faulted};
@@ -124,33 +124,31 @@ fn gathered<'a, C: Cells>(
     }
 }
 
-/// Makes the next step: does what the arguments are for if all have values, and else evaluates an argument that calls a method.
+/// Goes on to an argument that calls a method. The values of those before it are the variables of the active body after the first
+/// `count`.
 #[inline(always)]
-fn gather_next<'a, C: Cells>(
+fn ask<'a, C: Cells>(
     alloc: Global,
     p: &'a Prog,
     machine: &mut Machine<'a>,
     cells: &mut C,
     prints: &mut Ints,
     count: usize,
-    args: &'a [Expr],
+    first: &'a Expr,
+    others: &'a [Expr],
     goal: Goal,
 ) -> Result<Onward, Memory>
     requires within { count ≤ length machine.old.vars.active }
     requires may { MayGo p.now (ways_of C.known C.may_read C.may_write C.rule)
-        (gathering_from count (arguments_of args.now) goal machine.old cells.old prints.old) }
+        (gathering_from count (argument first.now (arguments_of others.now)) goal machine.old cells.old prints.old) }
     ensures { IfOk result (λ onward. Moves p.now (ways_of C.known C.may_read C.may_write C.rule)
-        (gathering_from count (arguments_of args.now) goal machine.old cells.old prints.old)
+        (gathering_from count (argument first.now (arguments_of others.now)) goal machine.old cells.old prints.old)
         (course onward machine.new) (standing machine.new cells.new prints.new)) }
 {
-    match args {
-        [] => gathered(alloc, p, machine, cells, prints, count, goal),
-        [first, others @ ..] => {
-            let taken = machine.vars.split(alloc, count)?;
-            let request = machine.argument(alloc, taken, first, others, goal)?;
-            serve(machine, cells, prints, request)
-        }
-    }
+    let _program = p;
+    let taken = machine.vars.split(alloc, count)?;
+    let request = machine.argument(alloc, taken, first, others, goal)?;
+    serve(machine, cells, prints, request)
 }
 
 /// Evaluates the arguments up to the first that calls a method, and then makes the next step. The values of those before them
@@ -185,8 +183,10 @@ fn gather<'a, C: Cells>(
         }
         next += 1;
     }
-    let args = &args[next..];
-    gather_next(alloc, p, machine, cells, prints, count, args, goal)
+    match &args[next..] {
+        [] => gathered(alloc, p, machine, cells, prints, count, goal),
+        [first, others @ ..] => ask(alloc, p, machine, cells, prints, count, first, others, goal),
+    }
 }
 
 /// Evaluates the arguments that have no value yet as far as they call no method.

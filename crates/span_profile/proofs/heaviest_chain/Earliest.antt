@@ -4,7 +4,7 @@ use Rattle.std.specs.Prelude.{slice_get, slice_index}
 use Rattle.std.specs.Option.{option_map}
 use Rattle.std.proofs.lemmas.List.{length-map}
 use Rattle.std.proofs.lemmas.Option.{slice_get-map, slice_get_within}
-use Rattle.schedule_bounds.specs.Timetables.{AreEarliest}
+use Rattle.span_profile.specs.Timetables.{AreEarliest}
 use Rattle.span_profile.specs.declared.heaviest_chain.top.Best.{Best}
 use Rattle.span_profile.specs.declared.heaviest_chain.top.Top.{Top}
 use Rattle.span_profile.specs.heaviest_chain.BestChains.{BestChains}

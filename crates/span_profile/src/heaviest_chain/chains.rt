@@ -1,6 +1,6 @@
 //! Chains as their nodes come, and the heaviest of them.
 ghost use Rattle.std.specs.Prelude.{◌≡◌, ◌<◌, ◌+◌, ◌++◌, ◌∷◌, [], ◌^◌, Some, IfOk, OnOk, length, map, reverse};
-ghost use Rattle.schedule_bounds.specs.Timetables.{AreEarliest};
+ghost use Rattle.span_profile.specs.Timetables.{AreEarliest};
 ghost use Rattle.span_profile.specs.heaviest_chain.Chains.{IsHeaviest, Leads, weight_at};
 ghost use Rattle.span_profile.specs.heaviest_chain.LastBefore.{AreLastBefore};
 ghost use Rattle.span_profile.specs.heaviest_chain.Nodes.{Nodes, SharesKey, weight_of};

@@ -5,9 +5,9 @@ use Rattle.twe_io.specs.declared.answer.Answer.{Answer}
 use Rattle.twe_io.specs.declared.status.Status.TheVariants.{Done}
 use Rattle.twe_ast.specs.declared.item.Item.{Item}
 use Rattle.twe_program.specs.Program.{Program}
-use Rattle.held_pairs.specs.declared.pair.HeldPair.{HeldPair}
+use Rattle.held_span.specs.declared.pair.HeldPair.{HeldPair}
 use Rattle.held_span.specs.declared.spanning.HeldProfile.{HeldProfile}
-use Rattle.run_advice.specs.declared.advising.Advice.{Advice}
+use Rattle.span_profile.specs.declared.advising.Advice.{Advice}
 use Rattle.twe_advise.specs.declared.paces.Pace.{Pace}
 use Rattle.twe_advise.specs.Forms.{advice_text}
 use Rattle.twe_advise.specs.Paces.{ArePaces, worker_counts}

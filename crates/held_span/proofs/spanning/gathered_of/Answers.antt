@@ -1,8 +1,8 @@
 use Rattle.std.proofs.Common.{[], ◌∷◌, ◌++◌, List, sym, subst, take}
 use Rattle.std.proofs.lemmas.List.{take_all}
 use Rattle.twe_machine.specs.declared.state.TaskRow.{TaskRow}
-use Rattle.effect_marks.specs.Gathering.{AreGathered}
-use Rattle.effect_marks.specs.Rivals.{EffectList}
+use Rattle.held_span.specs.Gathering.{AreGathered}
+use Rattle.held_span.specs.Rivals.{EffectList}
 use Rattle.held_span.specs.inner.Spanning.{effect_lists}
 use Rattle.held_span.proofs.Marked.{filled_there, lists_more}
 use Rattle.held_span.proofs.spanning.gathered_of.Goals as goal

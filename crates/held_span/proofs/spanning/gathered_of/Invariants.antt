@@ -1,5 +1,5 @@
 use Rattle.std.proofs.Common.{take}
-use Rattle.effect_marks.specs.Gathering.{AreGathered}
+use Rattle.held_span.specs.Gathering.{AreGathered}
 use Rattle.held_span.specs.inner.Spanning.{effect_lists}
 use Rattle.held_span.proofs.spanning.gathered_of.Given as goal
 

@@ -7,7 +7,7 @@ use Rattle.seg_journal.specs.declared.moves.Kind.TheVariants.{Admit}
 use Rattle.twe_machine.proofs.tasks.Filled.{reached_filled}
 use Rattle.twe_machine.specs.declared.state.TaskRow.{TaskRow}
 use Rattle.twe_program.specs.WellFormed.{IsWellFormed}
-use Rattle.effect_marks.specs.Marks.{AreMarksOf}
+use Rattle.held_span.specs.Marks.{AreMarksOf}
 use Rattle.held_span.specs.Freed.{stages}
 use Rattle.held_span.specs.inner.Told.{IsTold}
 use Rattle.held_span.proofs.HeldProfiles.{profile_of, told_of}

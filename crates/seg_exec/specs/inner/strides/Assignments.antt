@@ -8,6 +8,8 @@ use Rattle.twe_program.specs.Statement.{Statement}
 use Rattle.seg_exec.specs.declared.active.ActiveCall.{ActiveCall}
 use Rattle.seg_exec.specs.declared.strides.assign.Carried.{Carried}
 use Rattle.seg_exec.specs.declared.strides.assign.Carried.TheVariants.{Done, Faulted, Left}
+use Rattle.seg_exec.specs.declared.strides.assign.Target.{Target}
+use Rattle.seg_exec.specs.declared.strides.assign.Target.TheVariants.{Var, Cell}
 use Rattle.seg_exec.specs.Access.{HasWritten, Ways}
 use Rattle.seg_exec.specs.inner.steps.Continuations.{Continuation, Evaluate, Execute, GiveVar, GiveCell, GiveElement}
 use Rattle.seg_exec.specs.inner.strides.Strides.{Ends, Goes, MayGo, fault_ending, stand}
@@ -16,13 +18,14 @@ use Rattle.seg_exec.specs.inner.strides.Strides.{Ends, Goes, MayGo, fault_ending
 abbrev pub executing : Statement → List Continuation → List Continuation
 executing s work = Execute s ∷ work
 
--- on top of the other frames: the value of an expression is to be given to a variable
-abbrev pub to_variable : Expression → ℕ → List Continuation → List Continuation
-to_variable value var work = Evaluate value ∷ (GiveVar var ∷ work)
+-- the latest value is to be given to a variable or a cell
+abbrev pub giving_to : Target → Continuation
+giving_to (Var var) = GiveVar var
+giving_to (Cell cell) = GiveCell cell
 
--- on top of the other frames: the value of an expression is to be given to a cell
-abbrev pub to_cell : Expression → ℕ → List Continuation → List Continuation
-to_cell value cell work = Evaluate value ∷ (GiveCell cell ∷ work)
+-- on top of the other frames: the value of an expression is to be given to a variable or a cell
+abbrev pub to_target : Expression → Target → List Continuation → List Continuation
+to_target value target work = Evaluate value ∷ (giving_to target ∷ work)
 
 -- on top of the other frames: the value of an expression is to be given to the element at an index
 abbrev pub to_element : Expression → Expression → ℕ → Place → List Continuation → List Continuation

@@ -1,7 +1,7 @@
 use Rattle.std.proofs.Common.{◌++◌, ℕ, ap, ◌∙◌}
 use Rattle.std.specs.Prelude.{codes}
 use Rattle.std.proofs.lemmas.Result.{on_ok_weaker}
-use Rattle.run_advice.specs.Advice.{parallelism_of}
+use Rattle.span_profile.specs.Advice.{parallelism_of}
 use Rattle.twe_advise.specs.Json.{json_head}
 use Rattle.twe_advise.specs.Texts.{hundredths_text, word_number}
 use Rattle.twe_advise.proofs.Pieces.{four_pieces}

@@ -1,6 +1,6 @@
 use Rattle.std.proofs.Common.{◌++◌, ℕ, List, ap, ◌∙◌, append_assoc}
-use Rattle.run_advice.specs.Totals.{total_of}
-use Rattle.run_advice.specs.declared.totals.TaskTotal.{TaskTotal}
+use Rattle.span_profile.specs.Totals.{total_of}
+use Rattle.span_profile.specs.declared.totals.TaskTotal.{TaskTotal}
 use Rattle.twe_advise.specs.HeldTimes.{held_time}
 use Rattle.twe_advise.specs.Json.{comma_before, json_task, json_task_of}
 use Rattle.twe_advise.proofs.TaskRows.{rows_more}

@@ -1,6 +1,6 @@
 use Rattle.std.proofs.Common.{◌≡◌, ◌<◌, map, take}
 use Rattle.std.specs.List.{All}
-use Rattle.schedule_bounds.specs.Timetables.{IsPacedTime}
+use Rattle.span_profile.specs.Timetables.{IsPacedTime}
 use Rattle.twe_advise.specs.declared.paces.Pace.{Pace}
 use Rattle.twe_advise.proofs.paces.paces_of.Given as goal
 

@@ -2,8 +2,8 @@ use Rattle.std.proofs.Common.{List, refl, sym, ap, ◌∙◌, subst}
 use Rattle.twe_ast.specs.declared.item.Item.{Item}
 use Rattle.twe_io.specs.declared.status.Status.TheVariants.{Refused, TooLong}
 use Rattle.twe_io.specs.Answers.{on_err}
-use Rattle.summary_pasting.specs.declared.fail.PasteFail.{PasteFail}
-use Rattle.summary_pasting.specs.Pasted.{PasteHasCause}
+use Rattle.summary_texts.specs.declared.fail.PasteFail.{PasteFail}
+use Rattle.summary_texts.specs.Pasted.{PasteHasCause}
 use Rattle.twe_annotate.specs.Answers.{AnnotateDue, AreLeastOf}
 use Rattle.twe_annotate.specs.Kept.{kept_lines}
 use Rattle.twe_annotate.specs.declared.words.Request.TheVariants.{Write}

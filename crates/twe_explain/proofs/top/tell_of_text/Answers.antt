@@ -1,5 +1,5 @@
 use Rattle.twe_io.specs.Ends.{ends, ends_tell, source, sink}
-use Rattle.text_programs.specs.Causes.{TextCause}
+use Rattle.twe_report.specs.Causes.{TextCause}
 use Rattle.twe_explain.specs.Inputs.{ExplainCause, WishDue}
 use Rattle.twe_explain.specs.Alone.{explain_usage_text}
 use Rattle.twe_explain.specs.Words.{wish_of}

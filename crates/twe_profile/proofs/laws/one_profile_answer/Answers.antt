@@ -1,4 +1,4 @@
-use Rattle.journal_programs.proofs.OneAnswer.{one_answer}
+use Rattle.text_answers.proofs.OneJournalAnswer.{one_answer}
 use Rattle.twe_profile.specs.Answers.{ProfileGiven}
 use Rattle.twe_profile.proofs.OneAnswer.{all_legal, one_given}
 use Rattle.twe_profile.proofs.laws.one_profile_answer.Goals as goal

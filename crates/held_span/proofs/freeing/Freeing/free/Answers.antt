@@ -1,7 +1,7 @@
 use Rattle.std.proofs.Common.{◌≡◌, ◌++◌, List, [], map, None, Some, refl, sym, ◌∙◌, subst}
 use Rattle.std.proofs.lemmas.List.{append-nil}
-use Rattle.effect_marks.specs.Marks.{seen_by}
-use Rattle.effect_marks.specs.declared.marks.EffectMark.{EffectMark}
+use Rattle.held_span.specs.Marks.{seen_by}
+use Rattle.held_span.specs.declared.marks.EffectMark.{EffectMark}
 use Rattle.held_span.specs.inner.Holding.{HoldsOne, IsLowestOf}
 use Rattle.held_span.specs.inner.Keys.{mark_key}
 use Rattle.held_span.proofs.Numbered.{freed_back, seen_fit}

@@ -1,8 +1,8 @@
 use Rattle.std.proofs.Common.{◌≡◌, ◌↔◌, ◌⊎◌, ◌∙◌, List, subst}
 use Rattle.std.specs.List.{Contains}
 use Rattle.std.proofs.lemmas.List.{take_all}
-use Rattle.effect_marks.specs.declared.marks.EffectMark.{EffectMark}
-use Rattle.effect_marks.specs.declared.marks.EffectMark.TheVariants.{Own}
+use Rattle.held_span.specs.declared.marks.EffectMark.{EffectMark}
+use Rattle.held_span.specs.declared.marks.EffectMark.TheVariants.{Own}
 use Rattle.held_span.specs.inner.Holding.{Holds}
 use Rattle.held_span.proofs.Held.{entered_more}
 use Rattle.held_span.proofs.holders.Holders.enter.Goals as goal

@@ -1,6 +1,6 @@
 use Rattle.std.proofs.Common.{◌≡◌, ◌↔◌, ◌⊎◌, ℕ, take}
 use Rattle.std.specs.List.{Contains}
-use Rattle.effect_marks.specs.declared.marks.EffectMark.{EffectMark}
+use Rattle.held_span.specs.declared.marks.EffectMark.{EffectMark}
 use Rattle.held_span.specs.inner.Holding.{Holds, KeepsRoom}
 use Rattle.held_span.proofs.holders.Holders.enter.Given as goal
 

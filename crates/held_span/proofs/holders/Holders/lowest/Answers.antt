@@ -1,7 +1,7 @@
 use Rattle.std.proofs.Common.{◌⊎◌, ◌+◌, List, get_or, sym, subst, take}
 use Rattle.std.proofs.lemmas.List.{take_all}
-use Rattle.effect_marks.specs.declared.marks.EffectMark.{EffectMark}
-use Rattle.effect_marks.specs.declared.marks.EffectMark.TheVariants.{Own}
+use Rattle.held_span.specs.declared.marks.EffectMark.{EffectMark}
+use Rattle.held_span.specs.declared.marks.EffectMark.TheVariants.{Own}
 use Rattle.held_span.specs.inner.Holding.{Holds, HoldsOne, IsLowestOf}
 use Rattle.held_span.proofs.Held.{holds_more, lowest_both, lowest_same}
 use Rattle.held_span.proofs.holders.Holders.lowest.Goals as goal

@@ -10,7 +10,7 @@ use Rattle.seg_exec.specs.inner.strides.Strides.{Ends, MayGo, Nears}
 use Rattle.seg_exec.specs.inner.steps.Views.{config_before}
 use Rattle.seg_exec.specs.inner.strides.Moving.{Moves, course, gathering_from}
 use Rattle.seg_exec.proofs.steps.Callers.{with_first}
-use Rattle.seg_exec.proofs.strides.Gathering.{argument_done, argument_fault, argument_is, argument_may, gather_at, more_within, one_pushed, rest_of, within_args}
+use Rattle.seg_exec.proofs.strides.Gathering.{argument_done, argument_fault, argument_is, argument_may, gather_at, more_within, none_left, one_left, one_pushed, within_args}
 use Rattle.seg_exec.proofs.strides.Performing.{placed}
 use Rattle.seg_exec.proofs.Segments.{if_ok_map}
 use Rattle.seg_exec.proofs.strides.Moving.{near_moves}
@@ -67,20 +67,38 @@ loop-arg-preserved g c =
       more_within c.loop-arg.machine.vars c.push.new.self c.in-Ok.value c.args.count c.loop-arg.invariant.2 pushed,
     )
 
-pub gather_next-requires-clause-may : goal.gather_next-requires-clause-may
-gather_next-requires-clause-may g c =
+pub gathered-requires-clause-may : goal.gathered-requires-clause-may
+gathered-requires-clause-may g c =
     let ways = ways_of g.C.Cells.known g.C.Cells.may_read g.C.Cells.may_write g.C.Cells.rule in
     let from = gathering_from c.args.count (arguments_of c.args.args.now) c.args.goal c.args.machine.now c.args.cells.now c.args.prints.now in
     let now = gather_at (drop c.args.count c.loop-arg.machine.vars.active) c.loop-arg.next c.args.args.now c.args.goal (standing_before c.args.count c.loop-arg.machine c.loop-arg.cells c.args.prints.now) in
     subst (λ (l : List Expression). MayGo c.args.p.now (ways_of g.C.Cells.known g.C.Cells.may_read g.C.Cells.may_write g.C.Cells.rule) (gathering_from c.args.count (arguments_of l) c.args.goal c.loop-arg.machine c.loop-arg.cells c.args.prints.now))
-    (sym (rest_of c.args.args.now c.loop-arg.next)) (may_near c.args.p.now ways from now c.requires.may c.loop-arg.invariant.0)
+    (none_left c.args.args.now c.loop-arg.next c.in-empty.len_below) (may_near c.args.p.now ways from now c.requires.may c.loop-arg.invariant.0)
 
-pub returns : goal.returns
-returns g c =
+pub ask-requires-clause-may : goal.ask-requires-clause-may
+ask-requires-clause-may g c =
     let ways = ways_of g.C.Cells.known g.C.Cells.may_read g.C.Cells.may_write g.C.Cells.rule in
     let from = gathering_from c.args.count (arguments_of c.args.args.now) c.args.goal c.args.machine.now c.args.cells.now c.args.prints.now in
     let now = gather_at (drop c.args.count c.loop-arg.machine.vars.active) c.loop-arg.next c.args.args.now c.args.goal (standing_before c.args.count c.loop-arg.machine c.loop-arg.cells c.args.prints.now) in
-    let after = standing c.gather_next.new.machine c.gather_next.new.cells c.gather_next.new.prints in
-    if_ok_map c.gather_next.result (λ onward rest. near_moves c.args.p.now ways from now after (course onward c.gather_next.new.machine) c.loop-arg.invariant.0
-    (subst (λ (l : List Expression). Moves c.args.p.now (ways_of g.C.Cells.known g.C.Cells.may_read g.C.Cells.may_write g.C.Cells.rule) (gathering_from c.args.count (arguments_of l) c.args.goal c.loop-arg.machine c.loop-arg.cells c.args.prints.now) (course onward c.gather_next.new.machine) after)
-    (rest_of c.args.args.now c.loop-arg.next) rest)) c.gather_next.ensures
+    subst (λ (l : List Expression). MayGo c.args.p.now (ways_of g.C.Cells.known g.C.Cells.may_read g.C.Cells.may_write g.C.Cells.rule) (gathering_from c.args.count (arguments_of l) c.args.goal c.loop-arg.machine c.loop-arg.cells c.args.prints.now))
+    (one_left c.args.args.now c.loop-arg.next c.first-item.result c.in-len1-up.len_at_least c.first-item.is) (may_near c.args.p.now ways from now c.requires.may c.loop-arg.invariant.0)
+
+pub returns-in-empty : goal.returns-in-empty
+returns-in-empty g c =
+    let ways = ways_of g.C.Cells.known g.C.Cells.may_read g.C.Cells.may_write g.C.Cells.rule in
+    let from = gathering_from c.args.count (arguments_of c.args.args.now) c.args.goal c.args.machine.now c.args.cells.now c.args.prints.now in
+    let now = gather_at (drop c.args.count c.loop-arg.machine.vars.active) c.loop-arg.next c.args.args.now c.args.goal (standing_before c.args.count c.loop-arg.machine c.loop-arg.cells c.args.prints.now) in
+    let after = standing c.gathered.new.machine c.gathered.new.cells c.gathered.new.prints in
+    if_ok_map c.gathered.result (λ onward rest. near_moves c.args.p.now ways from now after (course onward c.gathered.new.machine) c.loop-arg.invariant.0
+    (subst (λ (l : List Expression). Moves c.args.p.now (ways_of g.C.Cells.known g.C.Cells.may_read g.C.Cells.may_write g.C.Cells.rule) (gathering_from c.args.count (arguments_of l) c.args.goal c.loop-arg.machine c.loop-arg.cells c.args.prints.now) (course onward c.gathered.new.machine) after)
+    (sym (none_left c.args.args.now c.loop-arg.next c.in-empty.len_below)) rest)) c.gathered.ensures
+
+pub returns-in-len1-up : goal.returns-in-len1-up
+returns-in-len1-up g c =
+    let ways = ways_of g.C.Cells.known g.C.Cells.may_read g.C.Cells.may_write g.C.Cells.rule in
+    let from = gathering_from c.args.count (arguments_of c.args.args.now) c.args.goal c.args.machine.now c.args.cells.now c.args.prints.now in
+    let now = gather_at (drop c.args.count c.loop-arg.machine.vars.active) c.loop-arg.next c.args.args.now c.args.goal (standing_before c.args.count c.loop-arg.machine c.loop-arg.cells c.args.prints.now) in
+    let after = standing c.ask.new.machine c.ask.new.cells c.ask.new.prints in
+    if_ok_map c.ask.result (λ onward rest. near_moves c.args.p.now ways from now after (course onward c.ask.new.machine) c.loop-arg.invariant.0
+    (subst (λ (l : List Expression). Moves c.args.p.now (ways_of g.C.Cells.known g.C.Cells.may_read g.C.Cells.may_write g.C.Cells.rule) (gathering_from c.args.count (arguments_of l) c.args.goal c.loop-arg.machine c.loop-arg.cells c.args.prints.now) (course onward c.ask.new.machine) after)
+    (sym (one_left c.args.args.now c.loop-arg.next c.first-item.result c.in-len1-up.len_at_least c.first-item.is)) rest)) c.ask.ensures

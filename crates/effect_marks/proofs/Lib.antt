@@ -1,5 +1,0 @@
-pub mod Sharing
-pub mod Longer
-pub mod Placing
-pub mod Climbing
-pub mod Rivalry

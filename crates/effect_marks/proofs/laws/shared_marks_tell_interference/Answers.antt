@@ -1,5 +1,0 @@
-use Rattle.effect_marks.proofs.Sharing.{shared-iff}
-use Rattle.effect_marks.proofs.laws.shared_marks_tell_interference.Goals as goal
-
-pub returns : goal.returns
-returns c = λ lists marks are a b first second at_a at_b. shared-iff lists marks are a b first second at_a at_b

@@ -1,6 +1,0 @@
-use Rattle.effect_marks.proofs.Rivalry.{HaveRivals}
-use Rattle.effect_marks.proofs.placed.Placed.all_rivals.Given as goal
-
--- the effects up to here have their rivals
-abbrev pub invariant-loop-effect : goal.invariant-loop-effect
-invariant-loop-effect l = HaveRivals l.self l.effect-index l.lists

@@ -1,6 +1,0 @@
-use Rattle.std.proofs.Common.{◌∙◌}
-use Rattle.effect_marks.proofs.Placing.{placed-none}
-use Rattle.effect_marks.proofs.placed.Placed.new.Goals as goal
-
-pub returns-clause-placed : goal.returns-clause-placed
-returns-clause-placed c = placed-none _ c.in_ok-shape.ensures.tree (c.in_ok-at_nodes.ensures ∙ c.nodes.ensures.count) c.new.ensures c.new-2.ensures

@@ -1,4 +1,0 @@
-pub mod Gathering
-pub mod Marks
-pub mod Rivals
-pub mod Tables

@@ -1,6 +1,0 @@
-mod Counting
-mod Most
-mod PairOrder
-mod Ranked
-mod Tallied
-mod Totals

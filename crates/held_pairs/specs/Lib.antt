@@ -1,4 +1,0 @@
-pub mod MostHeld
-pub mod OfHolds
-pub mod Pairs
-pub mod inner

@@ -1,3 +1,0 @@
--- What only private clauses and invariants cite.
-pub mod Ranks
-pub mod Tallies

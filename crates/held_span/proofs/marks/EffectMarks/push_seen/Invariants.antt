@@ -1,0 +1,7 @@
+use Rattle.std.proofs.Common.{◌≡◌, ◌++◌, map, take}
+use Rattle.held_span.specs.declared.marks.EffectMark.TheVariants.{Own}
+use Rattle.held_span.proofs.marks.EffectMarks.push_seen.Given as goal
+
+-- the marks for the rivals up to here were added
+abbrev pub invariant-loop-rival : goal.invariant-loop-rival
+invariant-loop-rival l = l.marks ≡ l.initial.marks ++ map (λ rival. Own rival) (take l.rival-index l.rival-items)

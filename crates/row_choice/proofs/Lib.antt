@@ -1,2 +1,0 @@
-pub mod SetFlags
-pub mod Chosen

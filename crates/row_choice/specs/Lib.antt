@@ -1,3 +1,0 @@
-pub mod Choice
-pub mod Rows
-pub mod inner

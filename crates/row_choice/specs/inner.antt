@@ -1,3 +1,0 @@
--- What only private clauses cite.
-pub mod Best
-pub mod Chosen

@@ -1,5 +1,0 @@
-pub mod CountedParts
-pub mod SmallWorks
-pub mod PacedRuns
-pub mod Speed
-pub mod TaskTotals

@@ -1,9 +1,0 @@
-use Rattle.twe_machine.specs.Runs.{counted}
-use Rattle.span_profile.specs.LeadsTo.{LeadsTo}
-use Rattle.span_profile.specs.Strands.{strands, weight_of}
-use Rattle.run_advice.proofs.Speed.{greedy}
-use Rattle.run_advice.proofs.laws.greedy_workers_are_fast.Goals as goal
-
-pub returns : goal.returns
-returns c = λ p lim moves work span workers chain start profile is.
-    greedy LeadsTo weight_of (strands p lim (counted profile.journal)) work span chain profile.heaviest workers start is

@@ -1,3 +1,0 @@
-pub mod Advice
-pub mod Speed
-pub mod Totals

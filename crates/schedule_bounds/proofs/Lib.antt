@@ -1,4 +1,0 @@
-pub mod Bounds
-pub mod Paced
-pub mod PacedTimes
-pub mod OneMore

@@ -1,6 +1,0 @@
-use Rattle.schedule_bounds.specs.Graphs.{LeadsIn, entry_count, weight_in}
-use Rattle.schedule_bounds.proofs.Bounds.{short}
-use Rattle.schedule_bounds.proofs.laws.a_greedy_schedule_is_short.Goals as goal
-
-pub returns : goal.returns
-returns c = λ graph processors span start forward is most. short (LeadsIn graph) forward (weight_in graph) (entry_count graph) processors start is span most

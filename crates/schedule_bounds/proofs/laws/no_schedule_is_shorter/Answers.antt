@@ -1,6 +1,0 @@
-use Rattle.schedule_bounds.specs.Graphs.{LeadsIn, entry_count, weight_in}
-use Rattle.schedule_bounds.proofs.Bounds.{not_shorter}
-use Rattle.schedule_bounds.proofs.laws.no_schedule_is_shorter.Goals as goal
-
-pub returns : goal.returns
-returns c = λ graph processors span start some is reached. not_shorter (LeadsIn graph) (weight_in graph) (entry_count graph) processors start is span some reached

@@ -1,5 +1,0 @@
-use Rattle.status_laws.proofs.MainRuns.{done_run, fault_run}
-use Rattle.status_laws.proofs.executions.sequential_executions_of_main_are_runs.Goals as goal
-
-pub returns : goal.returns
-returns c = record { whole = done_run; fault = fault_run }

@@ -1,5 +1,0 @@
-use Rattle.status_laws.proofs.KeptSegments.{keeps_next_segment}
-use Rattle.status_laws.proofs.independence.other_moves_keep_the_next_segment.Goals as goal
-
-pub returns : goal.returns
-returns c = keeps_next_segment

@@ -1,9 +1,0 @@
-pub mod LineClauses
-pub mod Fitting
-pub mod PastedTree
-pub mod Causes
-pub mod Accepted
-pub mod SameSteps
-pub mod SameNeeds
-pub mod SameNews
-pub mod Unchanged
