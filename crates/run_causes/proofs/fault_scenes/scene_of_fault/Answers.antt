@@ -81,8 +81,8 @@ loop-entry-preserved c =
     }
 
 -- the entry that met a fault is that of the fault
-pub returns-in_ok-scene-then-is_fault : goal.returns-in_ok-scene-then-is_fault
-returns-in_ok-scene-then-is_fault c =
+pub returns-then-is_fault : goal.returns-then-is_fault
+returns-then-is_fault c =
     let p = c.args.p.now in
     let lim = c.args.lim in
     let journal = c.args.journal.now in
