@@ -12,7 +12,7 @@ use Rattle.run_causes.specs.Makings.{making_by, makings_from, makings_of}
 
 module _ (p : Program) (lim : Bounds) where
   -- each beginning of a legal journal is legal
-  begins_legal : (st : State) (journal : List Entry) (n : ℕ) → LegalFrom p lim st journal → LegalFrom p lim st (take n journal)
+  pub begins_legal : (st : State) (journal : List Entry) (n : ℕ) → LegalFrom p lim st journal → LegalFrom p lim st (take n journal)
   begins_legal st [] zero legal = tt
   begins_legal st [] (suc n) legal = tt
   begins_legal st (entry ∷ journal) zero legal = tt

@@ -4,3 +4,5 @@ pub mod Beginnings
 pub mod Clashing
 -- The legal moves that were found up to a task.
 pub mod Found
+-- The first entry of a journal that met a fault.
+pub mod FirstFaults

@@ -1,2 +1,6 @@
 -- The moves before the first that is not legal.
 pub mod FirstIllegal
+-- The locals of a block.
+pub mod MoreLocals
+-- A text without a tree.
+pub mod NoTree

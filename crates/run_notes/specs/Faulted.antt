@@ -1,13 +1,16 @@
 -- What is said of a fault.
-use Rattle.std.specs.Prelude.{◌++◌, ℕ, List, [], ◌∷◌, Option, None, Some, bytes_eq, codes, decimal, if◌then◌else◌}
+use Rattle.std.specs.Prelude.{◌++◌, ℕ, List, [], ◌∷◌, Option, None, Some, bytes_eq, codes, decimal, if◌then◌else◌, slice_get}
 use Rattle.twe_base.specs.declared.fault.FaultKind.{FaultKind}
 use Rattle.twe_base.specs.declared.fault.FaultKind.TheVariants.{DivZero, Index, Fuel, Depth, TaskLimit}
 use Rattle.twe_base.specs.declared.place.Place.{Place}
 use Rattle.twe_base.specs.Limits.{Bounds}
+use Rattle.twe_ast.specs.declared.item.Item.{Item}
 use Rattle.twe_program.specs.declared.program.CellDecl.{CellDecl}
 use Rattle.twe_program.specs.declared.program.Dims.{Dims}
 use Rattle.twe_program.specs.declared.program.Dims.TheVariants.{Scalar, Row, Grid}
 use Rattle.twe_program.specs.Program.{Program}
+use Rattle.seg_exec.specs.declared.scene.FaultScene.{FaultScene}
+use Rattle.twe_machine.specs.declared.state.FirstFault.{FirstFault}
 use Rattle.twe_machine.specs.declared.state.State.{State}
 use Rattle.run_causes.specs.declared.making.Making.{Making}
 use Rattle.run_causes.specs.Makings.{making_of}
@@ -15,8 +18,11 @@ use Rattle.place_notes.specs.declared.note.Explanation.{Explanation}
 use Rattle.place_notes.specs.declared.note.Note.{Note}
 use Rattle.place_notes.specs.WordAt.{word_at}
 use Rattle.place_notes.specs.Notes.{note_at}
+use Rattle.run_notes.specs.CallsShown.{call_notes, calls_left_out, runs_of}
 use Rattle.run_notes.specs.CellsShown.{cells_shown}
 use Rattle.run_notes.specs.TaskTexts.{task_shown}
+use Rattle.run_notes.specs.VariablesShown.{scene_remarks}
+use Rattle.run_notes.specs.declared.calls_shown.CallRun.{CallRun}
 
 -- what is wrong
 abbrev pub fault_headline : FaultKind → List ℕ
@@ -93,15 +99,29 @@ made_notes p st (Some making) = notes_if making.place (made_caption p st making)
 abbrev pub fault_caption : Program → State → ℕ → List ℕ
 fault_caption p st task = task_shown p st task ++ codes " meets the fault here"
 
--- where the fault was met, and where its task was made
-abbrev pub fault_notes : Program → State → List Making → ℕ → Place → List Note
-fault_notes p st makings task place = note_at place (fault_caption p st task) ∷ made_notes p st (making_of makings task)
+-- the calls that were active in a scene
+abbrev pub runs_of_scene : Option FaultScene → List CallRun
+runs_of_scene None = []
+runs_of_scene (Some scene) = runs_of scene.calls
 
--- what is said of a fault that a task of this text met in a run under these limits, which has come to this state, with what the
--- cells hold then
-abbrev pub fault_explanation : List ℕ → Program → Bounds → State → List Making → ℕ → FaultKind → Place → Explanation
-fault_explanation text p lim st makings task kind place = record {
-  headline = fault_headline kind;
-  notes = fault_notes p st makings task place;
-  remarks = fault_remark lim p.cells (word_at text place) kind ∷ cells_shown st.cells p.cells;
+-- where the fault was met, the calls that were active, from the inside outwards, and where its task was made
+abbrev pub fault_notes : Program → State → List Making → List CallRun → ℕ → Place → List Note
+fault_notes p st makings runs task place =
+    note_at place (fault_caption p st task) ∷ (call_notes p runs ++ made_notes p st (making_of makings task))
+
+-- what is said beside the places: the bound that was met, what the variables in scope held, and what the cells hold
+abbrev pub fault_remarks : List ℕ → List Item → Program → Bounds → State → Option FaultScene → FirstFault → List (List ℕ)
+fault_remarks text items p lim st scene fault =
+    fault_remark lim p.cells (word_at text fault.place) fault.kind
+    ∷ (calls_left_out (runs_of_scene scene)
+    ++ (scene_remarks p (slice_get st.tasks fault.task) items fault.place scene ++ cells_shown st.cells p.cells))
+
+-- what is said of a fault with this scene in a run of this text under these limits, which has come to this state; the
+-- declarations are those of the text
+abbrev pub fault_explanation
+    : List ℕ → List Item → Program → Bounds → State → List Making → Option FaultScene → FirstFault → Explanation
+fault_explanation text items p lim st makings scene fault = record {
+  headline = fault_headline fault.kind;
+  notes = fault_notes p st makings (runs_of_scene scene) fault.task fault.place;
+  remarks = fault_remarks text items p lim st scene fault;
 }

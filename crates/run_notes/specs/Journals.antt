@@ -1,20 +1,22 @@
 -- The answer to a text with a journal.
 use Rattle.std.specs.Prelude.{◌+◌, ℕ, List, Option, length}
-use Rattle.twe_base.specs.declared.fault.FaultKind.{FaultKind}
-use Rattle.twe_base.specs.declared.place.Place.{Place}
 use Rattle.twe_base.specs.Limits.{Bounds}
+use Rattle.twe_ast.specs.declared.item.Ast.{Ast}
 use Rattle.wait_graph.specs.declared.stuck.Edge.{Edge}
 use Rattle.seg_journal.specs.declared.journal.Entry.{Entry}
 use Rattle.seg_journal.specs.declared.moves.Move.{Move}
 use Rattle.seg_journal.specs.Lines.{IsFirstBadLine}
 use Rattle.seg_journal.specs.Spelling.{Spells, head_lines}
 use Rattle.twe_program.specs.Program.{Program}
+use Rattle.seg_exec.specs.declared.scene.FaultScene.{FaultScene}
 use Rattle.twe_machine.specs.declared.ending.Outcome.TheVariants as outcomes
 use Rattle.twe_machine.specs.declared.legal.Why.{Why}
+use Rattle.twe_machine.specs.declared.state.FirstFault.{FirstFault}
 use Rattle.twe_machine.specs.declared.state.State.{State}
 use Rattle.twe_machine.specs.Replays.{IsReplay}
 use Rattle.twe_machine.specs.Runs.{IsOutcome}
 use Rattle.flat_sched.specs.Stuck.{IsCycleOfReasons, IsStuckCycle}
+use Rattle.run_causes.specs.FaultScenes.{IsFaultScene}
 use Rattle.run_causes.specs.Makings.{makings_of}
 use Rattle.run_causes.specs.NextMoves.{AreNextMoves}
 use Rattle.twe_report.specs.Texts.{fault_text, not_a_move_text, not_legal_text, result_text, stuck_text, unfinished_text}
@@ -26,6 +28,8 @@ use Rattle.run_notes.specs.Cycles.{stuck_explanation}
 use Rattle.run_notes.specs.Faulted.{fault_explanation}
 use Rattle.run_notes.specs.NextShown.{next_explanation}
 use Rattle.run_notes.specs.NotLegal.{IllegalTold}
+use Rattle.run_notes.specs.Trees.{IsTreeIfAny}
+use Rattle.run_notes.specs.VariablesShown.{items_of}
 use Rattle.explain_pages.specs.RunPage.{run_text}
 use Rattle.explain_pages.specs.declared.wanted.Wanted.{Wanted}
 
@@ -35,10 +39,12 @@ pub data RunTold (wanted : Wanted) (text : List ℕ) (p : Program) (lim : Bounds
     : Answer → Type 0 where
   -- all tasks are done, and there is the result
   done : IsOutcome st outcomes.AllDone → RunTold wanted text p lim journal st (on_out Done (result_text p st))
-  -- a task has met a fault, which is explained
-  faulted : (task : ℕ) (kind : FaultKind) (place : Place) → IsOutcome st (outcomes.Fault task kind place)
-      → RunTold wanted text p lim journal st (on_out Fault (run_text wanted text (fault_text task kind place)
-      (fault_explanation text p lim st (makings_of p lim journal) task kind place)))
+  -- a task has met a fault, which is explained: what was there when it was met, by the names that the text has
+  faulted : (fault : FirstFault) (scene : Option FaultScene) (tree : Option Ast)
+      → IsOutcome st (outcomes.Fault fault.task fault.kind fault.place) → IsFaultScene p lim journal fault scene
+      → IsTreeIfAny text tree
+      → RunTold wanted text p lim journal st (on_out Fault (run_text wanted text (fault_text fault.task fault.kind fault.place)
+      (fault_explanation text (items_of tree) p lim st (makings_of p lim journal) scene fault)))
   -- the run is stuck in this cycle, which is explained
   stuck : (cycle : List Edge) → IsOutcome st outcomes.Stuck → IsStuckCycle st cycle → IsCycleOfReasons st cycle
       → RunTold wanted text p lim journal st (on_out Stuck (run_text wanted text (stuck_text cycle)

@@ -1,8 +1,12 @@
 pub mod TaskTexts
 pub mod CellsShown
+pub mod BodyVariables
+pub mod VariablesShown
+pub mod CallsShown
 pub mod Faulted
 pub mod Waits
 pub mod Cycles
 pub mod NextShown
 pub mod NotLegal
+pub mod Trees
 pub mod Journals

@@ -1,14 +1,18 @@
 //! What is said of a fault.
 ghost use Rattle.std.specs.Prelude.{◌≡◌, ◌∷◌, ◌++◌, [], IfOk, OnOk};
-ghost use Rattle.run_notes.specs.Faulted.{bounds_found, bounds_text, dims_named, fault_caption, fault_explanation, fault_headline, fault_notes, fault_remark, task_fuel_text, any_bound, grid_bounds, made_caption, made_notes, notes_if, row_bound, task_limit_text};
+ghost use Rattle.run_notes.specs.Faulted.{bounds_found, bounds_text, dims_named, fault_caption, fault_explanation, fault_headline, fault_notes, fault_remark, fault_remarks, runs_of_scene, task_fuel_text, any_bound, grid_bounds, made_caption, made_notes, notes_if, row_bound, task_limit_text};
 
+use crate::calls_shown::{CallRun, push_call_notes, push_calls_left_out, runs_of};
 use crate::cells_shown::push_cells_shown;
 use crate::task_texts::push_task;
+use crate::variables_shown::push_scene_remarks;
 use itoa::Buffer;
 use place_notes::{Explanation, Note, word_at};
 use run_causes::{Making, making_of};
+use seg_exec::FaultScene;
 use seg_journal::Limits;
 use std::alloc::Global;
+use twe_ast::Item;
 use twe_base::{Bytes, FaultKind, List, Memory, Place};
 use twe_machine::{FirstFault, State};
 use twe_program::{CellDecl, Dims, Prog};
@@ -189,22 +193,34 @@ fn fault_caption(alloc: Global, p: &Prog, st: &State, task: u32) -> Result<Bytes
     Ok(text)
 }
 
-/// The places of a fault: where it was met, and where its task was made.
+/// The calls that were active in a scene.
+fn runs_of_scene(alloc: Global, scene: &Option<FaultScene>) -> Result<List<CallRun>, Memory>
+    ensures { IfOk result (λ runs. runs ≡ runs_of_scene scene.now) }
+{
+    match scene {
+        None => Ok(List::new(alloc)),
+        Some(scene) => runs_of(alloc, scene.calls.as_slice()),
+    }
+}
+
+/// The places of a fault: where it was met, the calls that were active, and where its task was made.
 fn fault_notes(
     alloc: Global,
     p: &Prog,
     st: &State,
     makings: &[Making],
+    runs: &[CallRun],
     task: u32,
     place: Place,
 ) -> Result<List<Note>, Memory>
-    ensures { IfOk result (λ notes. notes ≡ fault_notes p.now st.now makings.now task place) }
+    ensures { IfOk result (λ notes. notes ≡ fault_notes p.now st.now makings.now runs.now task place) }
 {
     let mut notes = List::new(alloc);
     notes.push(Note {
         place,
         caption: fault_caption(alloc, p, st, task)?,
     })?;
+    push_call_notes(&mut notes, alloc, p, runs)?;
     push_made_notes(&mut notes, alloc, p, st, making_of(makings, task))?;
     Ok(notes)
 }
@@ -218,27 +234,52 @@ pub(crate) fn one_remark(alloc: Global, remark: Bytes) -> Result<List<Bytes>, Me
     Ok(remarks)
 }
 
-/// What is said of a fault that a task of this text met in a run under these limits, which has come to this state, with what the
-/// cells hold then.
-pub(crate) fn fault_explanation(
+/// What is said beside the places of a fault.
+fn fault_remarks(
     alloc: Global,
     text: &[u8],
+    items: &[Item],
     p: &Prog,
     lim: Limits,
     st: &State,
-    makings: &[Making],
+    scene: &Option<FaultScene>,
+    runs: &[CallRun],
     fault: FirstFault,
-) -> Result<Explanation, Memory>
-    ensures { IfOk result (λ e. e ≡ fault_explanation text.now p.now lim st.now makings.now fault.task fault.kind fault.place) }
+) -> Result<List<Bytes>, Memory>
+    requires { runs.now ≡ runs_of_scene scene.now }
+    ensures { IfOk result (λ remarks. remarks ≡ fault_remarks text.now items.now p.now lim st.now scene.now fault) }
 {
     let word = word_at(text, fault.place);
     let cells = p.cells.as_slice();
     let remark = fault_remark(alloc, lim, cells, word, fault.kind)?;
     let mut remarks = one_remark(alloc, remark)?;
+    push_calls_left_out(&mut remarks, alloc, runs)?;
+    let row = st.tasks.get(fault.task as usize);
+    push_scene_remarks(&mut remarks, alloc, p, row, items, fault.place, scene)?;
     push_cells_shown(&mut remarks, alloc, st.cells.as_slice(), cells)?;
+    Ok(remarks)
+}
+
+/// What is said of a fault with this scene in a run of this text under these limits, which has come to this state, with what the
+/// cells hold then. The declarations are those of the text.
+pub(crate) fn fault_explanation(
+    alloc: Global,
+    text: &[u8],
+    items: &[Item],
+    p: &Prog,
+    lim: Limits,
+    st: &State,
+    makings: &[Making],
+    scene: &Option<FaultScene>,
+    fault: FirstFault,
+) -> Result<Explanation, Memory>
+    ensures { IfOk result (λ e. e ≡ fault_explanation text.now items.now p.now lim st.now makings.now scene.now fault) }
+{
+    let found = runs_of_scene(alloc, scene)?;
+    let runs = found.as_slice();
     Ok(Explanation {
         headline: Bytes::from_slice(alloc, fault_headline(fault.kind))?,
-        notes: fault_notes(alloc, p, st, makings, fault.task, fault.place)?,
-        remarks,
+        notes: fault_notes(alloc, p, st, makings, runs, fault.task, fault.place)?,
+        remarks: fault_remarks(alloc, text, items, p, lim, st, scene, runs, fault)?,
     })
 }

@@ -1,0 +1,50 @@
+-- What was there when the first fault of a run was met.
+use Rattle.std.specs.Prelude.{◌≡◌, ◌++◌, ℕ, ℤ, false, List, [], ◌∷◌, Option, None, Some, slice_get}
+use Rattle.std.specs.List.{All}
+use Rattle.twe_base.specs.declared.fault.FaultKind.{FaultKind}
+use Rattle.twe_base.specs.declared.fault.FaultKind.TheVariants.{TaskLimit}
+use Rattle.twe_base.specs.Limits.{Bounds}
+use Rattle.seg_journal.specs.declared.journal.End.TheVariants as ends
+use Rattle.seg_journal.specs.declared.journal.Entry.{Entry}
+use Rattle.seg_journal.specs.declared.moves.Kind.TheVariants.{Run}
+use Rattle.twe_program.specs.Program.{Program}
+use Rattle.seg_exec.specs.declared.frame.Frame.{Frame}
+use Rattle.seg_exec.specs.declared.frame.OpenBody.{OpenBody}
+use Rattle.seg_exec.specs.Segment.{flow_of, segment}
+use Rattle.seg_exec.specs.Scene.{scene_of}
+use Rattle.seg_exec.specs.declared.scene.FaultScene.{FaultScene}
+use Rattle.twe_machine.specs.declared.state.FirstFault.{FirstFault}
+use Rattle.twe_machine.specs.declared.state.State.{State}
+use Rattle.twe_machine.specs.declared.state.TaskRow.{TaskRow}
+use Rattle.twe_machine.specs.Moves.{ready_frame}
+use Rattle.twe_machine.specs.Runs.{is_fault, state_after}
+
+-- the entry of the move that met this fault
+abbrev pub faulty_entry : FirstFault → Entry
+faulty_entry fault = record { mv = record { kind = Run; task = fault.task }; end = ends.Fault fault.kind fault.place }
+
+-- what is there between two segments of a task whose body is open: its variables; no method is active then
+abbrev pub scene_between : List ℤ → Option OpenBody → Option FaultScene
+scene_between cells None = None
+scene_between cells (Some body) = Some (record { vars = body.vars; calls = []; cells = cells })
+
+-- the scene of a fault of this kind that the segment of this frame ends with: a task too many is refused after the segment has
+-- stopped at its make, and any other fault is met within the segment
+abbrev pub scene_by_kind : Program → Frame → List ℤ → FaultKind → Option FaultScene
+scene_by_kind p frame cells TaskLimit = let left = segment p frame cells in scene_between left.cells left.frame.body
+scene_by_kind p frame cells _ = scene_of (flow_of p frame frame.body cells)
+
+-- the scene of a fault of this kind that a task of this row meets in its next segment from this state, if it meets one
+abbrev pub scene_ahead : Program → State → FaultKind → Option TaskRow → Option FaultScene
+scene_ahead p st kind None = None
+scene_ahead p st kind (Some row) = scene_by_kind p (ready_frame st.tasks row.frame) st.cells kind
+
+-- This is the scene of the first fault of a journal: the entries before it met none and lead to a state, from which the next
+-- segment of its task meets a fault with this scene.
+pub record IsFaultScene (p : Program) (lim : Bounds) (journal : List Entry) (fault : FirstFault) (scene : Option FaultScene)
+    : Type 0 where
+  pub before : List Entry
+  pub later : List Entry
+  pub split : journal ≡ before ++ faulty_entry fault ∷ later
+  pub first : All (λ entry. is_fault entry.end ≡ false) before
+  pub same : scene ≡ scene_ahead p (state_after p lim before) fault.kind (slice_get (state_after p lim before).tasks fault.task)
