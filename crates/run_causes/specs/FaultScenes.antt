@@ -1,5 +1,5 @@
 -- What was there when the first fault of a run was met.
-use Rattle.std.specs.Prelude.{◌≡◌, ◌++◌, ℕ, ℤ, false, List, [], ◌∷◌, Option, None, Some, slice_get}
+use Rattle.std.specs.Prelude.{◌≡◌, ◌++◌, ℤ, false, List, [], ◌∷◌, Option, None, Some, slice_get}
 use Rattle.std.specs.List.{All}
 use Rattle.twe_base.specs.declared.fault.FaultKind.{FaultKind}
 use Rattle.twe_base.specs.declared.fault.FaultKind.TheVariants.{TaskLimit}

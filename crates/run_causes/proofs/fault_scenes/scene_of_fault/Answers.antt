@@ -1,4 +1,4 @@
-use Rattle.std.proofs.Common.{◌≡◌, ◌+◌, ◌++◌, ℕ, suc, List, ◌∷◌, length, None, Some, false, get_or, take, drop, slice_get, refl, sym, ap, ◌∙◌, subst, arith}
+use Rattle.std.proofs.Common.{◌≡◌, ◌++◌, ℕ, suc, List, ◌∷◌, None, Some, false, get_or, take, drop, slice_get, sym, ap, ◌∙◌, subst, arith}
 use Rattle.std.specs.List.{All}
 use Rattle.std.proofs.Math.Seq.{drop-cons}
 use Rattle.std.proofs.lemmas.List.{take-append-drop, take_all, take_more}
@@ -7,13 +7,11 @@ use Rattle.seg_journal.specs.declared.journal.End.{End}
 use Rattle.seg_journal.specs.declared.journal.End.TheVariants.{Admitted}
 use Rattle.seg_journal.specs.declared.journal.Entry.{Entry}
 use Rattle.seg_journal.specs.declared.moves.Kind.TheVariants.{Admit}
-use Rattle.seg_journal.specs.declared.moves.Move.{Move}
 use Rattle.twe_program.specs.WellFormed.{IsWellFormed}
-use Rattle.twe_machine.specs.declared.state.FirstFault.{FirstFault}
 use Rattle.twe_machine.specs.declared.state.State.{State}
 use Rattle.twe_machine.specs.Legal.{MayMove}
 use Rattle.twe_machine.specs.Moves.{move_result, start_of}
-use Rattle.twe_machine.specs.Runs.{IsReached, is_fault, state_after}
+use Rattle.twe_machine.specs.Runs.{is_fault, state_after}
 use Rattle.twe_machine.proofs.standing.ReachedStands.{reached_stands}
 use Rattle.twe_machine.proofs.tasks.Movers.{mover_there}
 use Rattle.run_causes.specs.FaultScenes.{faulty_entry, scene_ahead}
