@@ -90,6 +90,7 @@ abbrev pub body_variables_at : Place → Place → List Item → List BodyVariab
 body_variables_at place declared [] = []
 body_variables_at place declared (Regions names ∷ items) = body_variables_at place declared items
 body_variables_at place declared (Cell cell ∷ items) = body_variables_at place declared items
-body_variables_at place declared (Method decl ∷ items) = body_variables_if_at place declared decl (body_variables_at place declared items)
+body_variables_at place declared (Method decl ∷ items) =
+    body_variables_if_at place declared decl (body_variables_at place declared items)
 body_variables_at place declared (Task deterministic decl ∷ items) =
     body_variables_if_at place declared decl (body_variables_at place declared items)

@@ -34,7 +34,8 @@ pub(crate) fn advice_text(
     requires some { All (λ pace. 0 < pace.workers) paces.now }
     ensures { IfOk result (λ text. text
         ≡ forms.advice_text form p.now items.now advice.now.profile.work advice.now.profile.span
-        held.now.span held.now.holds pairs.now paces.now advice.now.works advice.now.tasks advice.now.profile.starts advice.now.steps) }
+        held.now.span held.now.holds pairs.now paces.now
+        advice.now.works advice.now.tasks advice.now.profile.starts advice.now.steps) }
 {
     let (work, span) = (advice.profile.work, advice.profile.span);
     let (works, decls) = (advice.works.as_slice(), p.tasks.as_slice());
