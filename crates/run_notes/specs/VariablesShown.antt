@@ -1,6 +1,6 @@
 -- The values of the variables that were in scope at a fault.
 use Rattle.std.specs.Fmt.{signed_decimal}
-use Rattle.std.specs.Prelude.{◌-◌, ◌++◌, ℕ, ℤ, Bool, true, false, List, [], ◌∷◌, Option, None, Some, codes, decimal, if◌then◌else◌, length, nat_lt, slice_get, take}
+use Rattle.std.specs.Prelude.{◌-◌, ◌++◌, ℕ, ℤ, Bool, true, false, List, [], ◌∷◌, Option, None, Some, codes, decimal, if◌then◌else◌, drop, length, nat_lt, slice_get}
 use Rattle.std.specs.List.{flat_map}
 use Rattle.twe_base.specs.declared.place.Place.{Place}
 use Rattle.twe_ast.specs.declared.item.Ast.{Ast}
@@ -51,14 +51,15 @@ abbrev pub listed_texts : List (List ℕ) → List ℕ
 listed_texts [] = []
 listed_texts (text ∷ texts) = text ++ later_texts texts
 
--- how many variables are left out, if some are
+-- how many variables are left out, if some are: those that are declared before the others
 abbrev pub more_words : ℕ → List ℕ
 more_words count =
-    if nat_lt most_variables count then codes ", and " ++ (decimal (count - most_variables) ++ codes " more") else []
+    if nat_lt most_variables count then codes ", and " ++ (decimal (count - most_variables) ++ codes " declared earlier") else []
 
--- what the variables hold at the place of the fault
+-- what the variables hold at the place of the fault, of many those that are declared nearest to it
 abbrev pub at_fault_text : List (List ℕ) → List ℕ
-at_fault_text texts = codes "at the fault " ++ (listed_texts (take most_variables texts) ++ more_words (length texts))
+at_fault_text texts =
+    codes "at the fault " ++ (listed_texts (drop (length texts - most_variables) texts) ++ more_words (length texts))
 
 -- the same, if there are some
 abbrev pub at_fault_remarks : List (List ℕ) → List (List ℕ)

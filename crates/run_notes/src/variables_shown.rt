@@ -1,5 +1,5 @@
 //! The values of the variables that were in scope at a fault.
-ghost use Rattle.std.specs.Prelude.{◌≡◌, ◌++◌, IfOk, OnOk, option_copied, take};
+ghost use Rattle.std.specs.Prelude.{◌≡◌, ◌-◌, ◌++◌, IfOk, OnOk, drop, length, option_copied};
 ghost use Rattle.seg_exec.specs.Arithmetic.{is_true};
 ghost use Rattle.run_notes.specs.VariablesShown.{active_decl, at_fault_remarks, at_fault_text, decl_of_row, items_of, later_texts, listed_texts, more_words, most_variables, scene_remarks, shown_in_scope, truth_text, variable_shown, variable_value, variables_of_decl, variables_shown};
 
@@ -106,27 +106,23 @@ fn push_listed_texts(text: &mut Bytes, texts: &[Bytes]) -> Result<(), Memory>
     }
 }
 
-/// Appends how many variables are left out, if some are.
+/// Appends how many variables are left out, if some are: those that are declared before the others.
 fn push_more(text: &mut Bytes, count: usize) -> Result<(), Memory>
     ensures { OnOk result (text.new ≡ text.old ++ more_words count) }
 {
     if MOST_VARIABLES < count {
         text.push_all(b", and ")?;
         text.push_all(Buffer::new().format(count - MOST_VARIABLES).as_bytes())?;
-        text.push_all(b" more")?;
+        text.push_all(b" declared earlier")?;
     }
     Ok(())
 }
 
-/// The first texts, as many as are shown.
+/// The last texts, as many as are shown: those of the variables that are declared nearest to the fault.
 fn shown_texts(texts: &[Bytes]) -> &[Bytes]
-    ensures { result.now ≡ take most_variables texts.now }
+    ensures { result.now ≡ drop (length texts.now - most_variables) texts.now }
 {
-    if MOST_VARIABLES < texts.len() {
-        &texts[..MOST_VARIABLES]
-    } else {
-        texts
-    }
+    &texts[texts.len().saturating_sub(MOST_VARIABLES)..]
 }
 
 /// What the variables hold at the place of the fault.
