@@ -6,3 +6,5 @@ pub mod MoreLocals
 pub mod NoTree
 -- The numbers of the variables of a body, and their names.
 pub mod Numbers
+-- The variables that are found by a place.
+pub mod FoundNames

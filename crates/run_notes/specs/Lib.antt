@@ -2,6 +2,7 @@ pub mod TaskTexts
 pub mod CellsShown
 pub mod BodyVariables
 pub mod VariableNumbers
+pub mod FoundVariables
 pub mod VariablesShown
 pub mod CallsShown
 pub mod Faulted

@@ -16,4 +16,4 @@ mod variables_shown;
 mod waits;
 
 pub use journals::{answer_journal, tell_run};
-pub use laws::shown_names_are_those_of_the_variables;
+pub use laws::{names_are_found_by_places, shown_names_are_those_of_the_variables};
