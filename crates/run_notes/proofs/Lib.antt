@@ -4,3 +4,7 @@ pub mod FirstIllegal
 pub mod MoreLocals
 -- A text without a tree.
 pub mod NoTree
+-- The numbers of the variables of a body, and their names.
+pub mod Numbers
+-- The variables that are found by a place.
+pub mod FoundNames

@@ -1,6 +1,8 @@
 pub mod TaskTexts
 pub mod CellsShown
 pub mod BodyVariables
+pub mod VariableNumbers
+pub mod FoundVariables
 pub mod VariablesShown
 pub mod CallsShown
 pub mod Faulted

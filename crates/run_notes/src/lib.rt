@@ -7,6 +7,7 @@ mod cells_shown;
 mod cycles;
 mod faulted;
 mod journals;
+mod laws;
 mod next_shown;
 mod not_legal;
 mod task_texts;
@@ -15,3 +16,4 @@ mod variables_shown;
 mod waits;
 
 pub use journals::{answer_journal, tell_run};
+pub use laws::{names_are_found_by_places, shown_names_are_those_of_the_variables};

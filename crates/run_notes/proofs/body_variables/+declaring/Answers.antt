@@ -1,9 +1,8 @@
-use Rattle.std.proofs.Common.{◌≡◌, ◌++◌, List, ◌∙◌, sym, ap}
+use Rattle.std.proofs.Common.{◌≡◌, ◌++◌, ◌∙◌, sym, ap}
 use Rattle.twe_base.specs.declared.place.Place.{Place}
 use Rattle.name_check.specs.Ends.{close_of}
 use Rattle.name_check.proofs.Bodies.{close_is}
 use Rattle.run_notes.specs.BodyVariables.{locals_of}
-use Rattle.run_notes.specs.declared.body_variables.BodyVariable.{BodyVariable}
 use Rattle.run_notes.proofs.MoreLocals.{one_statement_more}
 use Rattle.run_notes.proofs.body_variables.+declaring.Goals as goal
 

@@ -1,4 +1,4 @@
-use Rattle.std.proofs.Common.{◌≡◌, List, Some, sym, ap, ◌∙◌, subst}
+use Rattle.std.proofs.Common.{◌≡◌, List, sym, ap, ◌∙◌, subst}
 use Rattle.seg_journal.specs.declared.journal.Entry.{Entry}
 use Rattle.run_causes.specs.declared.making.Making.{Making}
 use Rattle.run_causes.specs.FaultScenes.{IsFaultScene}
