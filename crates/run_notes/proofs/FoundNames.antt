@@ -11,6 +11,7 @@ use Rattle.twe_ast.specs.declared.item.Item.{Item}
 use Rattle.twe_ast.specs.declared.item.Item.TheVariants.{Regions, Cell, Method, Task}
 use Rattle.twe_program.specs.declared.program.Decl.{Decl}
 use Rattle.name_check.specs.declared.names.GlobalName.{GlobalName}
+use Rattle.name_check.specs.Limits.{decls_of_item}
 use Rattle.name_check.specs.Names.{globals_of}
 use Rattle.twe_names.specs.Meaning.{decl_of, methods_of_item, tasks_of_item, program_of}
 use Rattle.name_notes.specs.Variables.{is_same_place}
@@ -31,33 +32,36 @@ none_there x (k, below, is) = omega arith
 
 module _ (globals : List GlobalName) (place : Place) where
   -- these are the variables of a declaration whose meaning, one of these methods and tasks, stands at the place
-  record Finds (declared : Place) (methods tasks : List Decl) (variables : List BodyVariable) : Type 0 where
+  record Finds (declared : Place) (decls : List written.Decl) (methods tasks : List Decl) (variables : List BodyVariable) : Type 0 where
     deterministic : Bool
     decl : written.Decl
+    is_written : Contains decls decl
     is_there : Contains methods (decl_of globals deterministic decl) ⊎ Contains tasks (decl_of globals deterministic decl)
     same_place : decl.name.place ≡ declared
     are_its : variables ≡ body_variables_of place decl
 
   -- one declaration more, at which the search ends or goes on
-  ends_here : (declared : Place) (deterministic : Bool) (decl : written.Decl) (methods tasks : List Decl) (others : List BodyVariable)
+  ends_here : (declared : Place) (deterministic : Bool) (decl : written.Decl) (decls : List written.Decl) (methods tasks : List Decl) (others : List BodyVariable)
       → is_same_place decl.name.place declared ≡ true
       → Contains methods (decl_of globals deterministic decl) ⊎ Contains tasks (decl_of globals deterministic decl)
-      → Finds declared methods tasks (if is_same_place decl.name.place declared then body_variables_of place decl else others)
-  ends_here declared deterministic decl methods tasks others same there = record {
+      → Finds declared (decl ∷ decls) methods tasks (if is_same_place decl.name.place declared then body_variables_of place decl else others)
+  ends_here declared deterministic decl decls methods tasks others same there = record {
     deterministic = deterministic;
     decl = decl;
+    is_written = Contains-append_left (decl ∷ []) decls decl (Contains-push [] decl);
     is_there = there;
     same_place = same_places decl.name.place declared same;
     are_its = ap (λ (b : Bool). if b then body_variables_of place decl else others) same;
   }
 
-  goes_on : (declared : Place) (decl : written.Decl) (more_methods more_tasks methods tasks : List Decl) (others : List BodyVariable)
-      → is_same_place decl.name.place declared ≡ false → Finds declared methods tasks others
-      → Finds declared (more_methods ++ methods) (more_tasks ++ tasks)
+  goes_on : (declared : Place) (decl : written.Decl) (decls : List written.Decl) (more_methods more_tasks methods tasks : List Decl) (others : List BodyVariable)
+      → is_same_place decl.name.place declared ≡ false → Finds declared decls methods tasks others
+      → Finds declared (decl ∷ decls) (more_methods ++ methods) (more_tasks ++ tasks)
       (if is_same_place decl.name.place declared then body_variables_of place decl else others)
-  goes_on declared decl more_methods more_tasks methods tasks others other found = record {
+  goes_on declared decl decls more_methods more_tasks methods tasks others other found = record {
     deterministic = found.deterministic;
     decl = found.decl;
+    is_written = Contains-append_right (decl ∷ []) decls found.decl found.is_written;
     is_there =
         ⊎_elim (λ h. inl (Contains-append_right more_methods methods (decl_of globals found.deterministic found.decl) h))
         (λ h. inr (Contains-append_right more_tasks tasks (decl_of globals found.deterministic found.decl) h)) found.is_there;
@@ -78,37 +82,40 @@ module _ (globals : List GlobalName) (place : Place) where
 
   find : (items : List Item) (d : Decl)
       → Contains (flat_map (methods_of_item globals) items) d ⊎ Contains (flat_map (tasks_of_item globals) items) d
-      → Finds d.place (flat_map (methods_of_item globals) items) (flat_map (tasks_of_item globals) items) (body_variables_at place d.place items)
+      → Finds d.place (flat_map decls_of_item items) (flat_map (methods_of_item globals) items) (flat_map (tasks_of_item globals) items) (body_variables_at place d.place items)
   find [] d there = absurd (⊎_elim (none_there d) (none_there d) there)
   find (Regions names ∷ items) d there = find items d there
   find (Cell cell ∷ items) d there = find items d there
   find (Method decl ∷ items) d there =
       let first : Decl = decl_of globals false decl in
+      let decls : List written.Decl = flat_map decls_of_item items in
       let methods : List Decl = flat_map (methods_of_item globals) items in
       let tasks : List Decl = flat_map (tasks_of_item globals) items in
       let others : List BodyVariable = body_variables_at place d.place items in
-      ⊎_elim (λ same. ends_here d.place false decl (first ∷ methods) tasks others same
+      ⊎_elim (λ same. ends_here d.place false decl decls (first ∷ methods) tasks others same
       (inl (Contains-append_left (first ∷ []) methods first (Contains-push [] first))))
-      (λ other. goes_on d.place decl (first ∷ []) [] methods tasks others other
+      (λ other. goes_on d.place decl decls (first ∷ []) [] methods tasks others other
       (find items d (⊎_elim (λ h. inl (not_first d first methods other h)) (λ h. inr h) there)))
       (cases_Bool (is_same_place decl.name.place d.place))
   find (Task deterministic decl ∷ items) d there =
       let first : Decl = decl_of globals deterministic decl in
+      let decls : List written.Decl = flat_map decls_of_item items in
       let methods : List Decl = flat_map (methods_of_item globals) items in
       let tasks : List Decl = flat_map (tasks_of_item globals) items in
       let others : List BodyVariable = body_variables_at place d.place items in
-      ⊎_elim (λ same. ends_here d.place deterministic decl methods (first ∷ tasks) others same
+      ⊎_elim (λ same. ends_here d.place deterministic decl decls methods (first ∷ tasks) others same
       (inr (Contains-append_left (first ∷ []) tasks first (Contains-push [] first))))
-      (λ other. goes_on d.place decl [] (first ∷ []) methods tasks others other
+      (λ other. goes_on d.place decl decls [] (first ∷ []) methods tasks others other
       (find items d (⊎_elim (λ h. inl h) (λ h. inr (not_first d first tasks other h)) there)))
       (cases_Bool (is_same_place decl.name.place d.place))
 
 finds-names : (tree : Ast) (place declared : Place)
-    → Finds (globals_of tree) place declared (program_of tree).methods (program_of tree).tasks (body_variables_at place declared tree.items)
+    → Finds (globals_of tree) place declared (flat_map decls_of_item tree.items) (program_of tree).methods (program_of tree).tasks (body_variables_at place declared tree.items)
     → FindsNames tree place declared
 finds-names tree place declared found = record {
   decl = found.decl;
-  meaning = decl_of (globals_of tree) found.deterministic found.decl;
+  deterministic = found.deterministic;
+  is_written = found.is_written;
   is_there =
       ⊎_elim (Contains-append_left (program_of tree).methods (program_of tree).tasks (decl_of (globals_of tree) found.deterministic found.decl))
       (Contains-append_right (program_of tree).methods (program_of tree).tasks (decl_of (globals_of tree) found.deterministic found.decl)) found.is_there;

@@ -1,6 +1,6 @@
 -- The locals of a block, statement by statement.
 use Rattle.std.proofs.Common.{◌≡◌, ◌<◌, ◌+◌, ◌++◌, ℕ, List, length, get_or, drop, sym, ap, ◌∙◌, append_assoc}
-use Rattle.twe_ast.specs.Statement.{Statement, Statements, statement}
+use Rattle.twe_ast.specs.Statement.{Statement, Statements}
 use Rattle.twe_ast.specs.inner.StatementView.{statements_of}
 use Rattle.twe_base.specs.declared.place.Place.{Place}
 use Rattle.name_check.proofs.Bodies.{close_is, next_statement}

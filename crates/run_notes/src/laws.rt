@@ -21,7 +21,7 @@ pub fn shown_names_are_those_of_the_variables()
 {}
 
 /// For each declaration of the program of a tree, what is found by the place of its name are the names of the variables of a
-/// declaration of the program that stands there.
+/// declaration of the tree that stands there.
 pub fn names_are_found_by_places()
     ensures { (tree : Ast) (place : Place) (d : Decl) → Contains (all_declared (program_of tree)) d
         → FindsNames tree place d.place }
