@@ -10,6 +10,7 @@ use Rattle.seg_exec.specs.Scene.{scene_of}
 use Rattle.seg_exec.specs.Segment.{flow_of}
 use Rattle.seg_exec.specs.Store.{Store, Flow, goes, returns, fails, stops}
 use Rattle.seg_exec.specs.inner.Faulting.{scene_at}
+use Rattle.seg_exec.specs.inner.steps.Calls.{calls_of}
 use Rattle.seg_exec.specs.inner.steps.Endings.{suspended_at}
 use Rattle.seg_exec.specs.inner.steps.Reached.{Finishes, over, standing}
 use Rattle.seg_exec.specs.inner.steps.Runs.{Over, store_of}
@@ -32,12 +33,12 @@ module _ (p : Program) where
   -- what is there at the end of a run is what was there at the fault
   pub scene_met : (frame : Frame) (from to : Machine) (cells new_cells prints new_prints : List ℤ) (ending : Ending) → config_at p frame frame.body ≡ Some (config_of from)
       → Finishes p list_ways (standing from cells prints) ending (standing to new_cells new_prints)
-      → scene_at ending to.vars.active to.calls new_cells ≡ scene_of (flow_of p frame frame.body cells)
+      → scene_at ending to.vars.active (calls_of to.work) new_cells ≡ scene_of (flow_of p frame frame.body cells)
   scene_met frame from to cells new_cells prints new_prints ending is f =
       let l = list_follows cells f.accesses new_cells f.follows in
       let ends = f.ends cells l.0 in
       let flow = flow_of p frame frame.body cells in
       let other = flow_so p frame frame.body (config_of from) cells is in
       let s : Store = store_of (over (config_of to) cells f.accesses) in
-      ap (λ (xs : List ℤ). scene_at ending to.vars.active to.calls xs) l.1
+      ap (λ (xs : List ℤ). scene_at ending to.vars.active (calls_of to.work) xs) l.1
       ∙ sym (scene_so flow ending s (once p other.0 ends.0 (over (config_of from) cells []) (outcome_of p flow) (Over ending s) (is_over p flow) tt other.1 ends.1))

@@ -11,5 +11,7 @@ pub mod Reaching
 -- The variables of the active bodies.
 pub mod Callers
 pub mod Parts
+-- The active calls.
+pub mod Calls
 -- Each step takes a unit of fuel or leaves less work.
 pub mod Falling

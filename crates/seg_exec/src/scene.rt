@@ -4,6 +4,7 @@ ghost use Rattle.twe_program.specs.Program.{cell_count};
 ghost use Rattle.seg_exec.specs.Scene.{scene_of};
 ghost use Rattle.seg_exec.specs.Segment.{flow_of};
 ghost use Rattle.seg_exec.specs.inner.Faulting.{scene_at};
+ghost use Rattle.seg_exec.specs.inner.steps.Calls.{calls_of};
 
 use crate::active::ActiveCall;
 use crate::frame::Frame;
@@ -33,12 +34,12 @@ fn scene_at(
     cells: Ints,
     ending: &Ending,
 ) -> Result<Option<FaultScene>, Memory>
-    ensures { IfOk result (λ scene. scene ≡ scene_at ending.now machine.entry.vars.active machine.entry.calls cells) }
+    ensures { IfOk result (λ scene. scene ≡ scene_at ending.now machine.entry.vars.active (calls_of machine.entry.work) cells) }
 {
     match ending {
         Ending::Faulted { .. } => Ok(Some(FaultScene {
             vars: machine.vars.into_active(alloc)?,
-            calls: machine.calls.into_list(),
+            calls: machine.work.into_calls(alloc)?,
             cells,
         })),
         Ending::Returned(_) => Ok(None),

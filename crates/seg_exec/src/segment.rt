@@ -15,6 +15,7 @@ use crate::entry::{effects_at, entry_frame};
 use crate::frame::{Frame, Next, OpenBody};
 use crate::operation::Operation;
 use crate::steps::continuation::{OpenBlock, Suspension};
+use crate::steps::frames::Frames;
 use crate::steps::machine::Machine;
 use crate::steps::pushdown::Pushdown;
 use crate::steps::request::Ending;
@@ -164,11 +165,10 @@ pub(crate) fn machine_at<'a>(
         return Ok(None);
     };
     let mut machine = Machine {
-        work: Pushdown::new(alloc),
+        work: Frames::new(alloc),
         operands: Pushdown::new(alloc),
         vars: Variables::new(body.vars.copy(alloc)?),
         fuel: frame.fuel,
-        calls: Pushdown::new(alloc),
         open: OpenBlock {
             block: 0,
             at: 0,

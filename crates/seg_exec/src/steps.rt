@@ -6,6 +6,7 @@ mod call;
 pub(crate) mod continuation;
 mod evaluate;
 mod execute;
+pub(crate) mod frames;
 mod held;
 pub(crate) mod machine;
 mod operate;

@@ -1,4 +1,5 @@
 pub mod Bodies
+pub mod Calls
 pub mod Continuations
 pub mod Endings
 pub mod Reached

@@ -1,8 +1,11 @@
 //! Continuation frames: what the evaluator still has to do, one frame for each thing.
 ghost use Rattle.std.specs.Prelude.{◌≡◌, ℤ, List};
+ghost use Rattle.seg_exec.specs.declared.active.ActiveCall.{ActiveCall};
+ghost use Rattle.seg_exec.specs.inner.steps.Calls.{calls_above, calls_with};
 ghost use Rattle.seg_exec.specs.inner.steps.Steps.{recovered_from};
-ghost use Rattle.seg_exec.specs.inner.steps.Views.{callers_below, callers_past, continuation_of, recovery_of};
+ghost use Rattle.seg_exec.specs.inner.steps.Views.{callers_below, callers_past, calls_past, continuation_of, recovery_of};
 
+use crate::active::ActiveCall;
 use crate::frame::Position;
 use crate::operation::Operation;
 use crate::steps::held::Held;
@@ -170,8 +173,13 @@ pub(crate) enum Continuation<'a> {
     Take(Box<Gathering<'a>>),
     /// Stop the segment at a task operation.
     Suspend(Held),
-    /// Return 0 from a method to its caller, which has so many variables, the last of those of the callers.
-    Leave(usize),
+    /// Return 0 from a method to its caller.
+    Leave {
+        /// How many variables the caller has, the last of those of the callers.
+        count: usize,
+        /// The active call of the method.
+        call: ActiveCall,
+    },
 }
 
 /// What is left of a block.
@@ -188,8 +196,13 @@ pub(crate) struct OpenBlock<'a> {
 /// What unwinding recovers from a continuation frame.
 #[derive(Debug, Drop)]
 pub(crate) enum Recovered {
-    /// How many variables the caller of a method has.
-    Caller(usize),
+    /// The caller of a method.
+    Caller {
+        /// How many variables it has.
+        count: usize,
+        /// The call, which is active no more.
+        call: ActiveCall,
+    },
     /// The position of an open block.
     Block(Position),
     /// Nothing.
@@ -197,14 +210,33 @@ pub(crate) enum Recovered {
 }
 
 impl Continuation<'_> {
+    /// The active call that this frame leaves, if it leaves one.
+    #[inline(always)]
+    pub(crate) fn call(&self) -> Option<ActiveCall>
+        ensures { (calls : List ActiveCall) → calls_with result calls ≡ calls_above self.now calls }
+    {
+        match self {
+            Continuation::Leave { call, .. } => Some(*call),
+            Continuation::Evaluate(_) => None,
+            Continuation::Execute(_) => None,
+            Continuation::Rest { .. } => None,
+            Continuation::Choose { .. } => None,
+            Continuation::UseValue(_) => None,
+            Continuation::Gather(_) => None,
+            Continuation::Take(_) => None,
+            Continuation::Suspend(_) => None,
+        }
+    }
+
     /// What unwinding recovers from this frame.
     #[inline(always)]
     pub(crate) fn recovered(self) -> Recovered
         ensures recovery { (callers : List ℤ) → recovery_of callers result ≡ recovered_from (continuation_of callers self.entry) }
         ensures callers { (callers : List ℤ) → callers_past result callers ≡ callers_below self.entry callers }
+        ensures calls { (calls : List ActiveCall) → calls_past result calls ≡ calls_above self.entry calls }
     {
         match self {
-            Continuation::Leave(count) => Recovered::Caller(count),
+            Continuation::Leave { count, call } => Recovered::Caller { count, call },
             Continuation::Rest { block, at, .. } => Recovered::Block(Position { block, after: at }),
             Continuation::Evaluate(_) => Recovered::Nothing,
             Continuation::Execute(_) => Recovered::Nothing,

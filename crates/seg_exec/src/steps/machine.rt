@@ -6,8 +6,8 @@ ghost use Rattle.seg_exec.specs.declared.steps.request.Request.TheVariants.{End}
 ghost use Rattle.seg_exec.specs.declared.steps.request.Ending.TheVariants.{Faulted};
 ghost use Rattle.seg_exec.specs.inner.steps.Views.{config_of, config_with, use_of};
 
-use crate::active::ActiveCall;
 use crate::steps::continuation::{Continuation, OpenBlock, ValueUse};
+use crate::steps::frames::Frames;
 use crate::steps::pushdown::Pushdown;
 use crate::steps::request::{Ending, Request};
 use crate::steps::variables::Variables;
@@ -24,16 +24,14 @@ pub(crate) fn fault(kind: FaultKind, place: Place) -> Request
 /// The state of the evaluator.
 #[derive(Debug, Drop)]
 pub(crate) struct Machine<'a> {
-    /// The continuation frames, the next one on top.
-    pub(crate) work: Pushdown<Continuation<'a>>,
+    /// The continuation frames, the next one on top. Those that leave a call have the active calls.
+    pub(crate) work: Frames<'a>,
     /// The operand stack: the values that were computed and not yet used, the latest on top.
     pub(crate) operands: Pushdown<i32>,
     /// The values of the variables of the active body and of its callers.
     pub(crate) vars: Variables,
     /// The fuel that is left, in units.
     pub(crate) fuel: u64,
-    /// The method calls that are active, the latest on top.
-    pub(crate) calls: Pushdown<ActiveCall>,
     /// What is left of a block that comes before the continuation frames, at times when such a block comes next. It stands here
     /// so that what the steps return stays small.
     pub(crate) open: OpenBlock<'a>,

@@ -1,10 +1,10 @@
 //! The stacks of the evaluator. A push writes the item where it stays, and is inlined.
-ghost use Rattle.std.specs.Prelude.{◌≡◌, [], ◌∷◌, drop, length, OnOk, MatchOption};
+ghost use Rattle.std.specs.Prelude.{◌≡◌, [], ◌∷◌, length, OnOk, MatchOption, OnErr};
 ghost use Rattle.twe_base.specs.Stacks.{top, below};
 
 use std::alloc::Global;
 use std::marker::Model;
-use twe_base::{List, Memory};
+use twe_base::Memory;
 
 /// A stack: the item pushed last is popped first. Contracts see a list whose first item is the top.
 #[derive(Debug, Drop)]
@@ -34,6 +34,7 @@ impl<T: Drop> Pushdown<T> {
     #[inline(always)]
     pub(crate) fn push(&mut self, item: T) -> Result<(), Memory>
         ensures ok { OnOk result (self.new ≡ item ∷ self.old) }
+        ensures err { OnErr result (self.new ≡ self.old) }
     {
         self.items.reserve(1)?;
         self.items.push_reserved(item);
@@ -63,22 +64,5 @@ impl<T: Drop> Pushdown<T> {
         ensures { result ≡ length self.now }
     {
         self.items.len()
-    }
-
-    /// Removes the top item, if there is one.
-    #[inline(always)]
-    pub(crate) fn drop_top(&mut self)
-        ensures { self.new ≡ drop 1 self.old }
-    {
-        let _ = self.items.pop();
-    }
-
-    /// The items as a list, the top one first. It takes no memory.
-    pub(crate) fn into_list(self) -> List<T>
-        ensures { result ≡ self }
-    {
-        let Pushdown { mut items } = self;
-        items.reverse();
-        List::from(items)
     }
 }

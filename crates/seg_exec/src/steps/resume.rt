@@ -1,5 +1,6 @@
 //! How blocks, arms and loops continue, and how a body is left.
 ghost use Rattle.std.specs.Prelude.{◌≡◌, IfOk, drop, pos};
+ghost use Rattle.seg_exec.specs.declared.active.ActiveCall.{ActiveCall};
 ghost use Rattle.twe_program.specs.Statement.{statements_of};
 ghost use Rattle.twe_program.specs.inner.StatementView.{arms_of};
 ghost use Rattle.seg_exec.specs.declared.steps.continuation.Continuation.TheVariants.{Leave};
@@ -127,19 +128,18 @@ impl<'a> Machine<'a> {
     /// Returns to the caller of a method, which has `count` variables, with a value.
     #[inline(always)]
     pub(crate) fn back(&mut self, value: i32, count: usize) -> Result<(), Memory>
-        ensures { IfOk result (λ _. config_of self.new
-            ≡ back_with value (last_of count self.old.vars.callers) (config_under (Leave count) self.old)) }
+        ensures { (call : ActiveCall) → IfOk result (λ _. config_of self.new
+            ≡ back_with value (last_of count self.old.vars.callers) (config_under (Leave count call) self.old)) }
     {
         self.vars.leave(count);
-        self.calls.drop_top();
         self.push_operand(value)
     }
 
     /// Returns from a method at the end of its body, with 0.
     #[inline(always)]
     pub(crate) fn leave(&mut self, count: usize) -> Result<Request, Memory>
-        ensures { IfOk result (λ request. (request, config_of self.new)
-            ≡ on (back_with (pos 0) (last_of count self.old.vars.callers) (config_under (Leave count) self.old))) }
+        ensures { (call : ActiveCall) → IfOk result (λ request. (request, config_of self.new)
+            ≡ on (back_with (pos 0) (last_of count self.old.vars.callers) (config_under (Leave count call) self.old))) }
     {
         self.back(0, count)?;
         Ok(Request::Nothing)
@@ -148,8 +148,9 @@ impl<'a> Machine<'a> {
     /// Returns the latest value to the caller of a method, which has `count` variables.
     #[inline(always)]
     fn hand_back(&mut self, count: usize) -> Result<Request, Memory>
-        ensures { IfOk result (λ request. (request, config_of self.new) ≡ on (back_with (top self.old.operands)
-            (last_of count self.old.vars.callers) (without_operand (config_under (Leave count) self.old)))) }
+        ensures { (call : ActiveCall) → IfOk result (λ request. (request, config_of self.new) ≡
+            on (back_with (top self.old.operands) (last_of count self.old.vars.callers)
+            (without_operand (config_under (Leave count call) self.old)))) }
     {
         let value = self.operands.pop_or(0);
         self.back(value, count)?;
@@ -182,7 +183,7 @@ impl<'a> Machine<'a> {
             return Ok(Request::End(Ending::Returned(self.pop_operand())));
         };
         match work.recovered() {
-            Recovered::Caller(count) => self.hand_back(count),
+            Recovered::Caller { count, .. } => self.hand_back(count),
             Recovered::Block(_) => self.unwind_on(),
             Recovered::Nothing => self.unwind_on(),
         }
@@ -199,7 +200,7 @@ impl<'a> Machine<'a> {
                 return Ok(Request::End(Ending::Returned(self.pop_operand())));
             };
             match work.recovered() {
-                Recovered::Caller(count) => return self.hand_back(count),
+                Recovered::Caller { count, .. } => return self.hand_back(count),
                 Recovered::Block(_) => {}
                 Recovered::Nothing => {}
             }
@@ -215,7 +216,7 @@ impl<'a> Machine<'a> {
             return Ok(Request::End(Ending::Suspended(suspension)));
         };
         match work.recovered() {
-            Recovered::Caller(count) => self.leave(count),
+            Recovered::Caller { count, .. } => self.leave(count),
             Recovered::Block(position) => {
                 let mut suspension = suspension;
                 suspension.close(position)?;

@@ -87,6 +87,14 @@ impl Variables {
         self.values.push_all(values)
     }
 
+    /// Appends variables, and then one more, to those of the active body.
+    pub(crate) fn push_all_and(&mut self, values: &[i32], last: i32) -> Result<(), Memory>
+        ensures { OnOk result (self.new ≡ with_active (self.old.active ++ (values.now ++ last ∷ [])) self.old) }
+    {
+        self.push_all(values)?;
+        self.push(last)
+    }
+
     /// Drops the variables of the active body after the first `count`.
     #[inline(always)]
     pub(crate) fn truncate(&mut self, count: usize)

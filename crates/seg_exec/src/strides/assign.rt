@@ -51,7 +51,8 @@ fn set<C: Cells>(
     vars: &mut Variables,
     cells: &mut C,
 ) -> Carried
-    requires { MayDo p.now (ways_of C.known C.may_read C.may_write C.rule) (to_target value.now target) vars.old.active cells.old }
+    requires { MayDo p.now (ways_of C.known C.may_read C.may_write C.rule)
+        (to_target value.now target) vars.old.active cells.old }
     ensures does { Does p.now (ways_of C.known C.may_read C.may_write C.rule)
         (to_target value.now target) vars.old.active cells.old result vars.new.active cells.new }
     ensures callers { vars.new.callers ≡ vars.old.callers }

@@ -65,13 +65,12 @@ fn enter<'a>(
         return Ok(refuse(machine, count, FaultKind::Fuel, call.place));
     }
     machine.fuel -= 1;
-    if machine.calls.len() >= MAX_ACTIVE_CALLS as usize {
+    if machine.work.calls() >= MAX_ACTIVE_CALLS as usize {
         return Ok(refuse(machine, count, FaultKind::Depth, call.place));
     }
-    machine.calls.push(call)?;
     machine.vars.enter(count);
     start(decl, &mut machine.vars)?;
-    machine.push(Continuation::Leave(count))?;
+    machine.push(Continuation::Leave { count, call })?;
     machine.open = OpenBlock {
         block: 0,
         at: 0,
@@ -226,9 +225,10 @@ pub(crate) fn take<'a, C: Cells>(
         machine.old cells.old prints.old machine.new cells.new prints.new) }
 {
     let Gathering { taken, args, goal } = gathering;
-    let mut taken = taken;
-    taken.push(machine.pop_operand())?;
-    gather_more(alloc, p, machine, cells, prints, taken, args, goal)
+    let value = machine.pop_operand();
+    let count = machine.vars.len();
+    machine.vars.push_all_and(taken.as_slice(), value)?;
+    gather(alloc, p, machine, cells, prints, count, args, goal)
 }
 
 /// Evaluates the arguments of a call as far as they call no method; if all have values, enters the method.

@@ -236,7 +236,7 @@ pub(crate) fn perform<'a, C: Cells>(
             let request = machine.suspend_on(stop)?;
             serve(machine, cells, prints, request)
         }
-        Continuation::Leave(count) => {
+        Continuation::Leave { count, .. } => {
             let request = machine.leave(count)?;
             serve(machine, cells, prints, request)
         }

@@ -126,7 +126,8 @@ turned_next again body place c = turned_by (is_true (top c.operands)) again body
 abbrev pub entered_by : Bool → Option Decl → List ℤ → ActiveCall → Config → Step
 entered_by true decl args call c = faulted Depth call.place c
 entered_by false decl args call c =
-    on (to_do (Rest 0 0 (body_of decl)) (to_do (Leave c.vars) (record c { vars = vars_at_start decl args; calls = call ∷ c.calls })))
+    on (to_do (Rest 0 0 (body_of decl)) (to_do (Leave c.vars)
+    (record c { vars = vars_at_start decl args; calls = call ∷ c.calls })))
 
 -- the call of a method takes a unit of fuel, and then the method is entered
 abbrev pub entering : Option Decl → List ℤ → ActiveCall → Config → Step

@@ -3,6 +3,7 @@ use Rattle.std.specs.Prelude.{ℕ, ℤ, List, [], ◌∷◌, drop, take}
 use Rattle.twe_program.specs.Expression.{arguments_of}
 use Rattle.twe_program.specs.Statement.{statements_of}
 use Rattle.twe_program.specs.inner.StatementView.{arms_of}
+use Rattle.seg_exec.specs.declared.active.ActiveCall.{ActiveCall}
 use Rattle.seg_exec.specs.declared.steps.continuation.Continuation.{Continuation as Held}
 use Rattle.seg_exec.specs.declared.steps.continuation.Continuation.TheVariants as held
 use Rattle.seg_exec.specs.declared.steps.continuation.Recovered.{Recovered}
@@ -12,6 +13,7 @@ use Rattle.seg_exec.specs.declared.steps.continuation.ValueUse.TheVariants as us
 use Rattle.seg_exec.specs.declared.steps.machine.Machine.{Machine}
 use Rattle.seg_exec.specs.inner.steps.Continuations.{Continuation, Evaluate, Execute, Rest, Choose, Chosen, Turn, Gather, Take, Negate, Invert, Right, Apply, ReadElement, ReadGridElement, GiveVar, GiveCell, GiveElement, GiveGridElement, PrintValue, Discard, Unwind, Suspend, Leave, Config, to_do}
 use Rattle.seg_exec.specs.inner.steps.Bodies.{before_last, last_of}
+use Rattle.seg_exec.specs.inner.steps.Calls.{calls_above, calls_of}
 use Rattle.seg_exec.specs.inner.steps.Steps.{Recovery, ToCaller, OfBlock, NoRecovery}
 
 -- the continuation frame that uses a value
@@ -42,11 +44,11 @@ continuation_of callers (held.UseValue then) = use_of then
 continuation_of callers (held.Gather g) = Gather g.value.taken (arguments_of g.value.args.now) g.value.goal
 continuation_of callers (held.Take g) = Take g.value.taken (arguments_of g.value.args.now) g.value.goal
 continuation_of callers (held.Suspend s) = Suspend s.operation s.positions
-continuation_of callers (held.Leave count) = Leave (last_of count callers)
+continuation_of callers (held.Leave count call) = Leave (last_of count callers)
 
 -- the variables of the callers that the frames below a frame return to
 abbrev pub callers_below : Held → List ℤ → List ℤ
-callers_below (held.Leave count) callers = before_last count callers
+callers_below (held.Leave count call) callers = before_last count callers
 callers_below _ callers = callers
 
 -- all frames
@@ -61,12 +63,15 @@ config_of m = record {
   operands = m.operands;
   vars = m.vars.active;
   fuel = m.fuel;
-  calls = m.calls;
+  calls = calls_of m.work;
 }
 
 -- the same below a frame that was on top
 abbrev pub config_under : Held → Machine → Config
-config_under work m = record (config_of m) { work = continuations_of (callers_below work m.vars.callers) m.work }
+config_under work m = record (config_of m) {
+  work = continuations_of (callers_below work m.vars.callers) m.work;
+  calls = calls_above work (calls_of m.work);
+}
 
 -- the same with the frame
 abbrev pub config_with : Held → Machine → Config
@@ -78,12 +83,18 @@ config_before count m = record (config_of m) { vars = take count m.vars.active }
 
 -- the variables of the callers below a frame from which this is recovered
 abbrev pub callers_past : Recovered → List ℤ → List ℤ
-callers_past (recovers.Caller count) callers = before_last count callers
+callers_past (recovers.Caller count call) callers = before_last count callers
 callers_past (recovers.Block position) callers = callers
 callers_past recovers.Nothing callers = callers
 
+-- the calls that were active with a frame from which this is recovered, over those of the frames below it
+abbrev pub calls_past : Recovered → List ActiveCall → List ActiveCall
+calls_past (recovers.Caller count call) calls = call ∷ calls
+calls_past (recovers.Block position) calls = calls
+calls_past recovers.Nothing calls = calls
+
 -- what unwinding recovers from a frame, over the variables of the callers
 abbrev pub recovery_of : List ℤ → Recovered → Recovery
-recovery_of callers (recovers.Caller count) = ToCaller (last_of count callers)
+recovery_of callers (recovers.Caller count call) = ToCaller (last_of count callers)
 recovery_of callers (recovers.Block position) = OfBlock position
 recovery_of callers recovers.Nothing = NoRecovery

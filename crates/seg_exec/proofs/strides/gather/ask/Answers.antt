@@ -1,4 +1,4 @@
-use Rattle.std.proofs.Common.{◌-◌, ℤ, List, drop, ap, ◌∙◌}
+use Rattle.std.proofs.Common.{ℤ, List, drop, ap, ◌∙◌}
 use Rattle.twe_program.specs.Expression.{argument, arguments_of}
 use Rattle.seg_exec.specs.Access.{ways_of}
 use Rattle.seg_exec.specs.inner.steps.Continuations.{Config, Gather}
