@@ -8,6 +8,7 @@ use Rattle.seg_journal.specs.declared.journal.End.TheVariants as ends
 use Rattle.seg_journal.specs.declared.journal.Entry.{Entry}
 use Rattle.seg_journal.specs.declared.moves.Kind.TheVariants.{Run}
 use Rattle.twe_program.specs.Program.{Program}
+use Rattle.seg_exec.specs.declared.fault.FaultCause.TheVariants as causes
 use Rattle.seg_exec.specs.declared.frame.Frame.{Frame}
 use Rattle.seg_exec.specs.declared.frame.OpenBody.{OpenBody}
 use Rattle.seg_exec.specs.Segment.{flow_of, segment}
@@ -23,10 +24,11 @@ use Rattle.twe_machine.specs.Runs.{is_fault, state_after}
 abbrev pub faulty_entry : FirstFault → Entry
 faulty_entry fault = record { mv = record { kind = Run; task = fault.task }; end = ends.Fault fault.kind fault.place }
 
--- what is there between two segments of a task whose body is open: its variables; no method is active then
+-- what is there at a task too many, which is refused between two segments of a task whose body is open: its variables; no
+-- method is active then
 abbrev pub scene_between : List ℤ → Option OpenBody → Option FaultScene
 scene_between cells None = None
-scene_between cells (Some body) = Some (record { vars = body.vars; calls = []; cells = cells })
+scene_between cells (Some body) = Some (record { cause = causes.TaskLimit; vars = body.vars; calls = []; cells = cells })
 
 -- the scene of a fault of this kind that the segment of this frame ends with: a task too many is refused after the segment has
 -- stopped at its make, and any other fault is met within the segment

@@ -5,7 +5,7 @@ ghost use Rattle.twe_program.specs.Program.{cell_count};
 ghost use Rattle.twe_machine.specs.Runs.{Legal, is_fault, state_after};
 ghost use Rattle.run_causes.specs.FaultScenes.{IsFaultScene, scene_ahead, scene_between, scene_by_kind};
 
-use seg_exec::{FaultScene, fault_scene, run_segment_over_list};
+use seg_exec::{FaultCause, FaultScene, fault_scene, run_segment_over_list};
 use seg_journal::{End, Entry, Limits};
 use std::alloc::Global;
 use twe_base::{FaultKind, Ints, List, Memory};
@@ -19,13 +19,14 @@ fn is_fault(end: End) -> bool
     matches!(end, End::Fault { .. })
 }
 
-/// What is there between two segments of a task whose body is open.
+/// What is there at a task too many, which is refused between two segments of a task whose body is open.
 fn scene_between(alloc: Global, cells: Ints, body: Option<OpenBody>) -> Option<FaultScene>
     ensures { result ≡ scene_between cells body }
 {
     match body {
         None => None,
         Some(body) => Some(FaultScene {
+            cause: FaultCause::TaskLimit,
             vars: body.vars,
             calls: List::new(alloc),
             cells,

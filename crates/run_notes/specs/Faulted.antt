@@ -1,7 +1,8 @@
 -- What is said of a fault.
+use Rattle.std.specs.Fmt.{signed_decimal}
 use Rattle.std.specs.Prelude.{◌++◌, ℕ, List, [], ◌∷◌, Option, None, Some, bytes_eq, codes, decimal, if◌then◌else◌, slice_get}
 use Rattle.twe_base.specs.declared.fault.FaultKind.{FaultKind}
-use Rattle.twe_base.specs.declared.fault.FaultKind.TheVariants.{DivZero, Index, Fuel, Depth, TaskLimit}
+use Rattle.twe_base.specs.declared.fault.FaultKind.TheVariants as kinds
 use Rattle.twe_base.specs.declared.place.Place.{Place}
 use Rattle.twe_base.specs.Limits.{Bounds}
 use Rattle.twe_ast.specs.declared.item.Item.{Item}
@@ -9,6 +10,8 @@ use Rattle.twe_program.specs.declared.program.CellDecl.{CellDecl}
 use Rattle.twe_program.specs.declared.program.Dims.{Dims}
 use Rattle.twe_program.specs.declared.program.Dims.TheVariants.{Scalar, Row, Grid}
 use Rattle.twe_program.specs.Program.{Program}
+use Rattle.seg_exec.specs.declared.fault.FaultCause.{FaultCause}
+use Rattle.seg_exec.specs.declared.fault.FaultCause.TheVariants.{Index, GridIndex}
 use Rattle.seg_exec.specs.declared.scene.FaultScene.{FaultScene}
 use Rattle.twe_machine.specs.declared.state.FirstFault.{FirstFault}
 use Rattle.twe_machine.specs.declared.state.State.{State}
@@ -26,11 +29,11 @@ use Rattle.run_notes.specs.declared.calls_shown.CallRun.{CallRun}
 
 -- what is wrong
 abbrev pub fault_headline : FaultKind → List ℕ
-fault_headline DivZero = codes "a number is divided by 0"
-fault_headline Index = codes "an index is outside of its array"
-fault_headline Fuel = codes "a task has no fuel left"
-fault_headline Depth = codes "too many calls are active in a task"
-fault_headline TaskLimit = codes "no more tasks may be made"
+fault_headline kinds.DivZero = codes "a number is divided by 0"
+fault_headline kinds.Index = codes "an index is outside of its array"
+fault_headline kinds.Fuel = codes "a task has no fuel left"
+fault_headline kinds.Depth = codes "too many calls are active in a task"
+fault_headline kinds.TaskLimit = codes "no more tasks may be made"
 
 -- how many elements the array of this name is declared with, if there is one
 abbrev pub dims_named : List ℕ → List CellDecl → Option Dims
@@ -72,13 +75,25 @@ task_fuel_text fuel =
 abbrev pub task_limit_text : ℕ → List ℕ
 task_limit_text tasks = codes "the limit on tasks is " ++ (decimal tasks ++ codes " in this run, and main is one of them")
 
+-- the index, or the row and the column, that led to a fault, as words before those on its bound
+abbrev pub index_words : FaultCause → List ℕ
+index_words (Index index) = codes "the index is " ++ (signed_decimal index ++ codes "; ")
+index_words (GridIndex row column) =
+    codes "the row is " ++ (signed_decimal row ++ (codes " and the column is " ++ (signed_decimal column ++ codes "; ")))
+index_words _ = []
+
+-- the same in a scene, if there is one
+abbrev pub index_words_in : Option FaultScene → List ℕ
+index_words_in None = []
+index_words_in (Some scene) = index_words scene.cause
+
 -- the bound that was met; for an index, the one of the array whose name this is
 abbrev pub fault_remark : Bounds → List CellDecl → List ℕ → FaultKind → List ℕ
-fault_remark lim cells word DivZero = codes "the right side of this / or % was 0, and no number is the result"
-fault_remark lim cells word Index = bounds_found word (dims_named word cells)
-fault_remark lim cells word Fuel = task_fuel_text lim.fuel
-fault_remark lim cells word Depth = codes "1000 calls are active here, each inside the one before, and that is the limit"
-fault_remark lim cells word TaskLimit = task_limit_text lim.tasks
+fault_remark lim cells word kinds.DivZero = codes "the right side of this / or % was 0, and no number is the result"
+fault_remark lim cells word kinds.Index = bounds_found word (dims_named word cells)
+fault_remark lim cells word kinds.Fuel = task_fuel_text lim.fuel
+fault_remark lim cells word kinds.Depth = codes "1000 calls are active here, each inside the one before, and that is the limit"
+fault_remark lim cells word kinds.TaskLimit = task_limit_text lim.tasks
 
 -- a place of which this is said, if it is known
 abbrev pub notes_if : Option Place → List ℕ → List Note
@@ -109,10 +124,10 @@ abbrev pub fault_notes : Program → State → List Making → List CallRun → 
 fault_notes p st makings runs task place =
     note_at place (fault_caption p st task) ∷ (call_notes p runs ++ made_notes p st (making_of makings task))
 
--- what is said beside the places: the bound that was met, what the variables in scope held, and what the cells hold
+-- what is said beside the places: the index that led to it and the bound that was met, what the variables in scope held, and what the cells hold
 abbrev pub fault_remarks : List ℕ → List Item → Program → Bounds → State → Option FaultScene → FirstFault → List (List ℕ)
 fault_remarks text items p lim st scene fault =
-    fault_remark lim p.cells (word_at text fault.place) fault.kind
+    (index_words_in scene ++ fault_remark lim p.cells (word_at text fault.place) fault.kind)
     ∷ (calls_left_out (runs_of_scene scene)
     ++ (scene_remarks p (slice_get st.tasks fault.task) items fault.place scene ++ cells_shown st.cells p.cells))
 

@@ -1,6 +1,6 @@
 //! What is said of a fault.
 ghost use Rattle.std.specs.Prelude.{◌≡◌, ◌∷◌, ◌++◌, [], IfOk, OnOk};
-ghost use Rattle.run_notes.specs.Faulted.{bounds_found, bounds_text, dims_named, fault_caption, fault_explanation, fault_headline, fault_notes, fault_remark, fault_remarks, runs_of_scene, task_fuel_text, any_bound, grid_bounds, made_caption, made_notes, notes_if, row_bound, task_limit_text};
+ghost use Rattle.run_notes.specs.Faulted.{bounds_found, bounds_text, dims_named, fault_caption, fault_explanation, fault_headline, fault_notes, fault_remark, fault_remarks, index_words, index_words_in, runs_of_scene, task_fuel_text, any_bound, grid_bounds, made_caption, made_notes, notes_if, row_bound, task_limit_text};
 
 use crate::calls_shown::{CallRun, push_call_notes, push_calls_left_out, runs_of};
 use crate::cells_shown::push_cells_shown;
@@ -9,7 +9,7 @@ use crate::variables_shown::push_scene_remarks;
 use itoa::Buffer;
 use place_notes::{Explanation, Note, word_at};
 use run_causes::{Making, making_of};
-use seg_exec::FaultScene;
+use seg_exec::{FaultCause, FaultScene};
 use seg_journal::Limits;
 use std::alloc::Global;
 use twe_ast::Item;
@@ -142,6 +142,55 @@ fn fault_remark(
     }
 }
 
+/// Appends the index, or the row and the column, that led to a fault, as words before those on its bound.
+fn push_index_words(text: &mut Bytes, cause: FaultCause) -> Result<(), Memory>
+    ensures { OnOk result (text.new ≡ text.old ++ index_words cause) }
+{
+    match cause {
+        FaultCause::Index(index) => {
+            text.push_all(b"the index is ")?;
+            text.push_all(Buffer::new().format(index).as_bytes())?;
+            text.push_all(b"; ")
+        }
+        FaultCause::GridIndex { row, column } => {
+            text.push_all(b"the row is ")?;
+            text.push_all(Buffer::new().format(row).as_bytes())?;
+            text.push_all(b" and the column is ")?;
+            text.push_all(Buffer::new().format(column).as_bytes())?;
+            text.push_all(b"; ")
+        }
+        _ => Ok(()),
+    }
+}
+
+/// The index, or the row and the column, that led to a fault with this scene, as words before those on its bound.
+fn index_words_in(alloc: Global, scene: &Option<FaultScene>) -> Result<Bytes, Memory>
+    ensures { IfOk result (λ text. text ≡ index_words_in scene.now) }
+{
+    let mut text = Bytes::new(alloc);
+    if let Some(scene) = scene {
+        push_index_words(&mut text, scene.cause)?;
+    }
+    Ok(text)
+}
+
+/// The index that led to a fault with this scene, and the bound that was met.
+fn cause_remark(
+    alloc: Global,
+    lim: Limits,
+    cells: &[CellDecl],
+    word: &[u8],
+    kind: FaultKind,
+    scene: &Option<FaultScene>,
+) -> Result<Bytes, Memory>
+    ensures { IfOk result (λ text. text ≡ index_words_in scene.now ++ fault_remark lim cells.now word.now kind) }
+{
+    let mut text = index_words_in(alloc, scene)?;
+    let bound = fault_remark(alloc, lim, cells, word, kind)?;
+    text.push_all(bound.as_slice())?;
+    Ok(text)
+}
+
 /// That a task is made, and by whom.
 fn made_caption(alloc: Global, p: &Prog, st: &State, making: Making) -> Result<Bytes, Memory>
     ensures { IfOk result (λ text. text ≡ made_caption p.now st.now making) }
@@ -251,7 +300,7 @@ fn fault_remarks(
 {
     let word = word_at(text, fault.place);
     let cells = p.cells.as_slice();
-    let remark = fault_remark(alloc, lim, cells, word, fault.kind)?;
+    let remark = cause_remark(alloc, lim, cells, word, fault.kind, scene)?;
     let mut remarks = one_remark(alloc, remark)?;
     push_calls_left_out(&mut remarks, alloc, runs)?;
     let row = st.tasks.get(fault.task as usize);

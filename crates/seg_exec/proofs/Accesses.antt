@@ -24,6 +24,8 @@ use Rattle.seg_exec.specs.Access.{MayAll}
 use Rattle.seg_exec.specs.Arithmetic.{is_true, operated, decided}
 use Rattle.seg_exec.specs.Cells.{cell_number, element_number, grid_element_number, element_of, grid_element_of, first_of, in_row, in_grid, index_below, at_column}
 use Rattle.seg_exec.specs.Store.{Store, Given, gives, faults, Flow, goes, returns, fails, stops, then_give, then_do, then_go, unit_taken, unit_of}
+use Rattle.seg_exec.specs.declared.fault.FaultCause.{FaultCause}
+use Rattle.seg_exec.specs.declared.fault.FaultCause.TheVariants.{Index, GridIndex}
 use Rattle.seg_exec.specs.Meaning.{Below, element_read, element_written, value_or_fault, right_given, body_of, vars_at_start, given_back, entered, called, value_of, values_of, turned, chosen, stopped_at, done_by, done_all, done_arms, done_within}
 use Rattle.seg_exec.specs.Plain.{list_ways}
 use Rattle.seg_exec.specs.Remaining.{after_first, last_of_first, branch_of, block_of, block_at, turned_again, resumed}
@@ -74,12 +76,12 @@ module _ (p : Program) (well : IsWellFormed p) (cells : List ℤ) (enough : leng
 
   abbrev GivenFine : {A : Type 0} → Given A → Type 0
   GivenFine (gives value s) = Fine s
-  GivenFine (faults kind place s) = Fine s
+  GivenFine (faults cause place s) = Fine s
 
   abbrev FlowFine : Flow → Type 0
   FlowFine (goes s) = Fine s
   FlowFine (returns value s) = Fine s
-  FlowFine (fails kind place s) = Fine s
+  FlowFine (fails cause place s) = Fine s
   FlowFine (stops operation positions s) = Fine s
 
   abbrev NumberFine : Option ℕ → Type 0
@@ -106,32 +108,32 @@ module _ (p : Program) (well : IsWellFormed p) (cells : List ℤ) (enough : leng
       let before = cells_before p.cells 0 array decl well.numbered is in
       after_cell decl.first (size_of decl.dims) (length cells) (in_grid decl.dims row column) (omega (arith, before, enough)) (grid_fine decl.dims row column)
 
-  read_fine : (number : Option ℕ) (place : Place) (s : Store) → NumberFine number → Fine s → GivenFine (element_read number place s)
-  read_fine None place s n h = h
-  read_fine (Some cell) place s n h = (n, h)
+  read_fine : (number : Option ℕ) (missing : FaultCause) (place : Place) (s : Store) → NumberFine number → Fine s → GivenFine (element_read number missing place s)
+  read_fine None missing place s n h = h
+  read_fine (Some cell) missing place s n h = (n, h)
 
-  written_fine : (number : Option ℕ) (value : ℤ) (place : Place) (s : Store) → NumberFine number → Fine s → FlowFine (element_written number value place s)
-  written_fine None value place s n h = h
-  written_fine (Some cell) value place s n h = (n, h)
+  written_fine : (number : Option ℕ) (missing : FaultCause) (value : ℤ) (place : Place) (s : Store) → NumberFine number → Fine s → FlowFine (element_written number missing value place s)
+  written_fine None missing value place s n h = h
+  written_fine (Some cell) missing value place s n h = (n, h)
 
   give_fine : {A B : Type 0} (g : Given A) (next : A → Store → Given B) → GivenFine g → ((value : A) (s : Store) → Fine s → GivenFine (next value s)) → GivenFine (then_give g next)
   give_fine (gives value s) next h k = k value s h
-  give_fine (faults kind place s) next h k = h
+  give_fine (faults cause place s) next h k = h
 
   do_fine : {A : Type 0} (g : Given A) (next : A → Store → Flow) → GivenFine g → ((value : A) (s : Store) → Fine s → FlowFine (next value s)) → FlowFine (then_do g next)
   do_fine (gives value s) next h k = k value s h
-  do_fine (faults kind place s) next h k = h
+  do_fine (faults cause place s) next h k = h
 
   go_fine : (f : Flow) (next : Store → Flow) → FlowFine f → ((s : Store) → Fine s → FlowFine (next s)) → FlowFine (then_go f next)
   go_fine (goes s) next h k = k s h
   go_fine (returns value s) next h k = h
-  go_fine (fails kind place s) next h k = h
+  go_fine (fails cause place s) next h k = h
   go_fine (stops operation positions s) next h k = h
 
   stopped_fine : (block after : ℕ) (f : Flow) → FlowFine f → FlowFine (stopped_at block after f)
   stopped_fine block after (goes s) h = h
   stopped_fine block after (returns value s) h = h
-  stopped_fine block after (fails kind place s) h = h
+  stopped_fine block after (fails cause place s) h = h
   stopped_fine block after (stops operation positions s) h = h
 
   unit_fine : (fuel : ℕ) (place : Place) (s : Store) → Fine s → GivenFine (unit_of fuel place s)
@@ -149,7 +151,7 @@ module _ (p : Program) (well : IsWellFormed p) (cells : List ℤ) (enough : leng
   back_fine : (vars : List ℤ) (f : Flow) → FlowFine f → GivenFine (given_back vars f)
   back_fine vars (goes s) h = h
   back_fine vars (returns value s) h = h
-  back_fine vars (fails kind place s) h = h
+  back_fine vars (fails cause place s) h = h
   back_fine vars (stops operation positions s) h = h
 
   -- the body of a method fits
@@ -184,10 +186,10 @@ module _ (p : Program) (well : IsWellFormed p) (cells : List ℤ) (enough : leng
         value_fine (Variable var fixed) fits s h = h
         value_fine (CellValue cell place) fits s h = (cell_fine cell (takes_of cell 0 fits), h)
         value_fine (ArrayElement array index place) fits s h =
-            give_fine (value_of below p index s) _ (value_fine index fits.1 s h) (λ i s1 h1. read_fine (element_number p array i) place s1 (element_fine_by array i (slice_get p.cells array) refl) h1)
+            give_fine (value_of below p index s) _ (value_fine index fits.1 s h) (λ i s1 h1. read_fine (element_number p array i) (Index i) place s1 (element_fine_by array i (slice_get p.cells array) refl) h1)
         value_fine (GridElement array row column place) fits s h =
             give_fine (value_of below p row s) _ (value_fine row fits.1 s h) (λ i s1 h1. give_fine (value_of below p column s1) _ (value_fine column fits.2 s1 h1)
-            (λ j s2 h2. read_fine (grid_element_number p array i j) place s2 (grid_element_fine_by array i j (slice_get p.cells array) refl) h2))
+            (λ j s2 h2. read_fine (grid_element_number p array i j) (GridIndex i j) place s2 (grid_element_fine_by array i j (slice_get p.cells array) refl) h2))
         value_fine (CallValue method args place) fits s h =
             give_fine (values_of below p args s) _ (values_fine args fits.2 s h) (λ vs s1 h1. called_fine method vs place s1 h1)
         value_fine (Negative operand) fits s h = give_fine (value_of below p operand s) _ (value_fine operand fits s h) (λ v s1 h1. h1)
@@ -217,11 +219,11 @@ module _ (p : Program) (well : IsWellFormed p) (cells : List ℤ) (enough : leng
             do_fine (value_of below p value s) _ (value_fine value fits.1 s h) (λ v s1 h1. (cell_fine cell (takes_of cell 0 fits.0), h1))
         statement_fine (SetArray point array index value place) fits s h =
             do_fine (value_of below p index s) _ (value_fine index fits.1 s h) (λ i s1 h1. do_fine (value_of below p value s1) _ (value_fine value fits.2 s1 h1)
-            (λ v s2 h2. written_fine (element_number p array i) v place s2 (element_fine_by array i (slice_get p.cells array) refl) h2))
+            (λ v s2 h2. written_fine (element_number p array i) (Index i) v place s2 (element_fine_by array i (slice_get p.cells array) refl) h2))
         statement_fine (SetGrid point array row column value place) fits s h =
             do_fine (value_of below p row s) _ (value_fine row fits.1 s h) (λ i s1 h1. do_fine (value_of below p column s1) _ (value_fine column fits.2 s1 h1)
             (λ j s2 h2. do_fine (value_of below p value s2) _ (value_fine value fits.3 s2 h2)
-            (λ v s3 h3. written_fine (grid_element_number p array i j) v place s3 (grid_element_fine_by array i j (slice_get p.cells array) refl) h3)))
+            (λ v s3 h3. written_fine (grid_element_number p array i j) (GridIndex i j) v place s3 (grid_element_fine_by array i j (slice_get p.cells array) refl) h3)))
         statement_fine (If point arms) fits s h = arms_fine arms fits 0 s h
         statement_fine (While point condition body place) fits s h =
             do_fine (value_of below p condition s) _ (value_fine condition fits.0 s h) (λ v s1 h1. turned_fine (is_true v) place (done_all below p 0 0 body) (below (While point condition body place)) s1 h1
@@ -311,7 +313,7 @@ module _ (p : Program) (well : IsWellFormed p) (cells : List ℤ) (enough : leng
   stopped_may : (frame : Frame) (f : Flow) → FlowFine f → MayAll list_ways cells (stopped_by p frame f).accesses
   stopped_may frame (goes s) h = h
   stopped_may frame (returns value s) h = h
-  stopped_may frame (fails kind place s) h = h
+  stopped_may frame (fails cause place s) h = h
   stopped_may frame (stops operation positions s) h = h
 
   pub may_carry_out : (frame : Frame) → MayCarryOut p list_ways frame cells

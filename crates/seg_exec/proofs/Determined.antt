@@ -89,7 +89,7 @@ module _ (p : Program) (frame : Frame) where
   ends_as : (f : Flow) → EndsAs f
   ends_as (goes s) = record { ending = Returned (pos 0); end = s; outcome = refl; stopped = refl }
   ends_as (returns value s) = record { ending = Returned value; end = s; outcome = refl; stopped = refl }
-  ends_as (fails kind place s) = record { ending = Faulted kind place; end = s; outcome = refl; stopped = refl }
+  ends_as (fails cause place s) = record { ending = Faulted cause place; end = s; outcome = refl; stopped = refl }
   ends_as (stops operation positions s) = record { ending = suspended_at operation positions; end = s; outcome = refl; stopped = refl }
 
   body_agrees : (body : Option OpenBody) (cells : List ℤ) → AgreesWithItself cells (stopped_by p frame (flow_of p frame body cells))

@@ -29,7 +29,7 @@ operation_has_room p before after (operations.Wait future false into) room is = 
 pub flow_has_room : (p : Program) (frame : Frame) (f : Flow) → HasRoomToSpawn (stopped_by p frame f).stop (stopped_by p frame f).frame
 flow_has_room p frame (goes s) = closing_has_room frame.out.items (pos 0) (stopped_by p frame (goes s)).frame
 flow_has_room p frame (returns value s) = closing_has_room frame.out.items value (stopped_by p frame (returns value s)).frame
-flow_has_room p frame (fails kind place s) = tt
+flow_has_room p frame (fails cause place s) = tt
 flow_has_room p frame (stops operation positions s) =
     operation_has_room p frame (stopped_by p frame (stops operation positions s)).frame operation frame.out.room refl
 
@@ -39,7 +39,7 @@ spawns_have_room p frame cells = flow_has_room p frame (flow_of p frame frame.bo
 -- the same once a run of the evaluator has ended
 pub finished_has_room : (p : Program) (frame : Frame) (vars : List ℤ) (ending : Ending) → HasRoomToSpawn (finished p frame vars ending).1 (finished p frame vars ending).0
 finished_has_room p frame vars (Returned value) = closing_has_room frame.out.items value (finished p frame vars (Returned value)).0
-finished_has_room p frame vars (Faulted kind place) = tt
+finished_has_room p frame vars (Faulted cause place) = tt
 finished_has_room p frame vars (Suspended held) =
     operation_has_room p frame (finished p frame vars (Suspended held)).0 held.operation frame.out.room refl
 

@@ -24,9 +24,9 @@ module _ (p : Program) where
   scene_so : (f : Flow) (ending : Ending) (s : Store) → outcome_of p f ≡ Over ending s → scene_of f ≡ scene_at ending s.vars s.calls s.cells
   scene_so (goes s0) ending s e = let a : Returned (pos 0) ≡ ending = cc in ap (λ (x : Ending). scene_at x s.vars s.calls s.cells) a
   scene_so (returns value s0) ending s e = let a : Returned value ≡ ending = cc in ap (λ (x : Ending). scene_at x s.vars s.calls s.cells) a
-  scene_so (fails kind place s0) ending s e =
-      let a : Faulted kind place ≡ ending = cc in let b : s0 ≡ s = cc in
-      ap (λ (x : Store). scene_at (Faulted kind place) x.vars x.calls x.cells) b ∙ ap (λ (x : Ending). scene_at x s.vars s.calls s.cells) a
+  scene_so (fails cause place s0) ending s e =
+      let a : Faulted cause place ≡ ending = cc in let b : s0 ≡ s = cc in
+      ap (λ (x : Store). scene_at (Faulted cause place) x.vars x.calls x.cells) b ∙ ap (λ (x : Ending). scene_at x s.vars s.calls s.cells) a
   scene_so (stops operation positions s0) ending s e =
       let a : suspended_at operation positions ≡ ending = cc in ap (λ (x : Ending). scene_at x s.vars s.calls s.cells) a
 

@@ -27,7 +27,7 @@ module _ (p : Program) where
   pub is_over : (f : Flow) → IsOver p (outcome_of p f)
   is_over (goes s) = tt
   is_over (returns value s) = tt
-  is_over (fails kind place s) = tt
+  is_over (fails cause place s) = tt
   is_over (stops operation positions s) = tt
 
   -- a frame with what was printed, and what is left of its fuel
@@ -47,9 +47,9 @@ module _ (p : Program) where
   stopped_so frame (returns value s0) ending s e =
       let a : Returned value ≡ ending = cc in let b : s0 ≡ s = cc in
       ap (λ (x : Store). left frame (Returned value) x) b ∙ ap (λ (x : Ending). left frame x s) a
-  stopped_so frame (fails kind place s0) ending s e =
-      let a : Faulted kind place ≡ ending = cc in let b : s0 ≡ s = cc in
-      ap (λ (x : Store). left frame (Faulted kind place) x) b ∙ ap (λ (x : Ending). left frame x s) a
+  stopped_so frame (fails cause place s0) ending s e =
+      let a : Faulted cause place ≡ ending = cc in let b : s0 ≡ s = cc in
+      ap (λ (x : Store). left frame (Faulted cause place) x) b ∙ ap (λ (x : Ending). left frame x s) a
   stopped_so frame (stops operation positions s0) ending s e =
       let a : suspended_at operation positions ≡ ending = cc in let b : s0 ≡ s = cc in
       ap (λ (x : Store). left frame (suspended_at operation positions) x) b ∙ ap (λ (x : Ending). left frame x s) a
@@ -94,7 +94,7 @@ module _ (p : Program) where
         → (n : ℕ) × (ending : Ending) × (end : Store) × (run p n from ≡ Over ending end) × MayAll ways cells end.accesses
     may_end frame cells from (goes s) may x = (x.0, Returned (pos 0), s, x.1, may)
     may_end frame cells from (returns value s) may x = (x.0, Returned value, s, x.1, may)
-    may_end frame cells from (fails kind place s) may x = (x.0, Faulted kind place, s, x.1, may)
+    may_end frame cells from (fails cause place s) may x = (x.0, Faulted cause place, s, x.1, may)
     may_end frame cells from (stops operation positions s) may x = (x.0, suspended_at operation positions, s, x.1, may)
 
     pub may_run : (frame : Frame) (from : Machine) (cells : C) (prints : List ℤ) → MayCarryOut p ways frame cells → config_at p frame frame.body ≡ Some (config_of from)

@@ -1,5 +1,6 @@
 pub mod Access
 pub mod Arithmetic
+pub mod Causes
 pub mod Cells
 pub mod Children
 pub mod Entry

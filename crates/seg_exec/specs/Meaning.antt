@@ -2,7 +2,6 @@
 use Rattle.std.specs.Prelude.{ℕ, zero, suc, ◌+◌, ◌-◌, ℤ, pos, Bool, true, false, List, [], ◌∷◌, ◌++◌, drop, length, replicate, Option, None, Some, nat_le, slice_get}
 use Rattle.twe_base.specs.declared.place.Place.{Place}
 use Rattle.twe_base.specs.Language.{max_active_calls}
-use Rattle.twe_base.specs.declared.fault.FaultKind.TheVariants.{DivZero, Index, Depth}
 use Rattle.twe_ast.specs.declared.expr.BinOp.{BinOp}
 use Rattle.twe_program.specs.declared.program.Decl.{Decl}
 use Rattle.twe_program.specs.Program.{Program}
@@ -10,6 +9,8 @@ use Rattle.twe_program.specs.Expression.{Expression, Literal, Truth, Variable, C
 use Rattle.twe_program.specs.Expression as args
 use Rattle.twe_program.specs.Statement.{Statement, Block, Let, Set, SetCell, SetArray, SetGrid, If, While, Return, Print, Call, Make, Wait, Statements, no_more, statement, Arms, arm, otherwise, no_else}
 use Rattle.seg_exec.specs.declared.active.ActiveCall.{ActiveCall}
+use Rattle.seg_exec.specs.declared.fault.FaultCause.{FaultCause}
+use Rattle.seg_exec.specs.declared.fault.FaultCause.TheVariants.{DivZero, Index, GridIndex, Depth}
 use Rattle.seg_exec.specs.declared.operation.Operation.TheVariants as operations
 use Rattle.seg_exec.specs.Arithmetic.{number_of, is_true, operated, decided, negative, negation}
 use Rattle.seg_exec.specs.Cells.{cell_number, element_number, grid_element_number}
@@ -20,15 +21,15 @@ use Rattle.seg_exec.specs.Store.{Store, Given, gives, faults, Flow, goes, return
 abbrev pub Below : Type 0
 Below = Statement → Store → Flow
 
--- the read of an element; a fault if there is no such element
-abbrev pub element_read : Option ℕ → Place → Store → Given ℤ
-element_read None place s = faults Index place s
-element_read (Some cell) place s = cell_read cell s
+-- the read of an element; a fault with this cause if there is no such element
+abbrev pub element_read : Option ℕ → FaultCause → Place → Store → Given ℤ
+element_read None missing place s = faults missing place s
+element_read (Some cell) missing place s = cell_read cell s
 
--- the write of an element; a fault if there is no such element
-abbrev pub element_written : Option ℕ → ℤ → Place → Store → Flow
-element_written None value place s = fails Index place s
-element_written (Some cell) value place s = goes (cell_written cell value s)
+-- the write of an element; a fault with this cause if there is no such element
+abbrev pub element_written : Option ℕ → FaultCause → ℤ → Place → Store → Flow
+element_written None missing value place s = fails missing place s
+element_written (Some cell) missing value place s = goes (cell_written cell value s)
 
 -- the value of an operator on its operands; a fault if it divides by zero
 abbrev pub value_or_fault : Option ℤ → Place → Store → Given ℤ
@@ -63,7 +64,7 @@ left_with vars s = record s { vars = vars; calls = drop 1 s.calls }
 abbrev pub given_back : List ℤ → Flow → Given ℤ
 given_back vars (goes s) = gives (pos 0) (left_with vars s)
 given_back vars (returns value s) = gives value (left_with vars s)
-given_back vars (fails kind place s) = faults kind place s
+given_back vars (fails cause place s) = faults cause place s
 given_back vars (stops operation positions s) = gives (pos 0) (left_with vars s)
 
 -- a method is executed, unless too many calls are active already
@@ -88,10 +89,10 @@ abbrev mutual
   value_of below p (Variable var fixed) s = gives (var_in var s) s
   value_of below p (CellValue cell place) s = cell_read (cell_number p cell) s
   value_of below p (ArrayElement array index place) s =
-      then_give (value_of below p index s) (λ i s1. element_read (element_number p array i) place s1)
+      then_give (value_of below p index s) (λ i s1. element_read (element_number p array i) (Index i) place s1)
   value_of below p (GridElement array row column place) s =
       then_give (value_of below p row s) (λ i s1.
-      then_give (value_of below p column s1) (λ j s2. element_read (grid_element_number p array i j) place s2))
+      then_give (value_of below p column s1) (λ j s2. element_read (grid_element_number p array i j) (GridIndex i j) place s2))
   value_of below p (CallValue method args place) s =
       then_give (values_of below p args s) (λ values s1. called below p method values place s1)
   value_of below p (Negative operand) s = then_give (value_of below p operand s) (λ value s1. gives (negative value) s1)
@@ -126,7 +127,7 @@ abbrev pub stopped_at : ℕ → ℕ → Flow → Flow
 stopped_at block after (stops operation positions s) = stops operation (record { block = block; after = after } ∷ positions) s
 stopped_at block after (goes s) = goes s
 stopped_at block after (returns value s) = returns value s
-stopped_at block after (fails kind place s) = fails kind place s
+stopped_at block after (fails cause place s) = fails cause place s
 
 -- what statements, blocks and the arms of an `if` do
 abbrev mutual
@@ -139,10 +140,10 @@ abbrev mutual
       then_do (value_of below p value s) (λ v s1. goes (cell_written (cell_number p cell) v s1))
   done_by below p (SetArray point array index value place) s =
       then_do (value_of below p index s) (λ i s1.
-      then_do (value_of below p value s1) (λ v s2. element_written (element_number p array i) v place s2))
+      then_do (value_of below p value s1) (λ v s2. element_written (element_number p array i) (Index i) v place s2))
   done_by below p (SetGrid point array row column value place) s =
       then_do (value_of below p row s) (λ i s1. then_do (value_of below p column s1) (λ j s2.
-      then_do (value_of below p value s2) (λ v s3. element_written (grid_element_number p array i j) v place s3)))
+      then_do (value_of below p value s2) (λ v s3. element_written (grid_element_number p array i j) (GridIndex i j) v place s3)))
   done_by below p (If point arms) s = done_arms below p 0 arms s
   done_by below p (While point condition body place) s =
       then_do (value_of below p condition s) (λ v s1.

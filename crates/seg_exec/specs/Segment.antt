@@ -10,6 +10,7 @@ use Rattle.seg_exec.specs.declared.operation.Operation.{Operation}
 use Rattle.seg_exec.specs.declared.operation.Operation.TheVariants as operations
 use Rattle.seg_exec.specs.declared.stop.Stop.{Stop}
 use Rattle.seg_exec.specs.declared.stop.Stop.TheVariants as ends
+use Rattle.seg_exec.specs.Causes.{fault_kind}
 use Rattle.seg_exec.specs.Children.{Children}
 use Rattle.seg_exec.specs.Access.{Access, Agrees, Follows, MayAll, Ways, after, printed}
 use Rattle.seg_exec.specs.Entry.{effects_at, entry_frame}
@@ -101,11 +102,11 @@ HasRoomToSpawn _ frame = Unit {0}
 abbrev pub stopped_by : Program → Frame → Flow → Stopped
 stopped_by p frame (goes s) = at_end frame (pos 0) s
 stopped_by p frame (returns value s) = at_end frame value s
-stopped_by p frame (fails kind place s) = record {
+stopped_by p frame (fails cause place s) = record {
   frame = record (with_store frame None s) { next = Ended };
   cells = s.cells;
   accesses = s.accesses;
-  stop = ends.Fault kind place;
+  stop = ends.Fault (fault_kind cause) place;
 }
 stopped_by p frame (stops operation positions s) = record {
   frame = record (with_store frame (Some (open_body positions s)) s)

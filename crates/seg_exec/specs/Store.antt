@@ -1,9 +1,9 @@
 -- The state that expressions and statements work on, and how they end.
 use Rattle.std.specs.Prelude.{ℕ, zero, suc, ℤ, List, ◌∷◌, slice_get, slice_set}
 use Rattle.twe_base.specs.declared.place.Place.{Place}
-use Rattle.twe_base.specs.declared.fault.FaultKind.{FaultKind}
-use Rattle.twe_base.specs.declared.fault.FaultKind.TheVariants.{Fuel}
 use Rattle.seg_exec.specs.declared.active.ActiveCall.{ActiveCall}
+use Rattle.seg_exec.specs.declared.fault.FaultCause.{FaultCause}
+use Rattle.seg_exec.specs.declared.fault.FaultCause.TheVariants.{Fuel}
 use Rattle.seg_exec.specs.declared.frame.Position.{Position}
 use Rattle.seg_exec.specs.declared.operation.Operation.{Operation}
 use Rattle.seg_exec.specs.Access.{Access, Reads, Writes, Prints, value_in}
@@ -20,7 +20,7 @@ pub record Store : Type 0 where
 -- how an expression ends: with a value, or with a fault at a place of the text
 pub data Given (A : Type 0) : Type 0 where
   gives : (value : A) (store : Store) → Given A
-  faults : (kind : FaultKind) (place : Place) (store : Store) → Given A
+  faults : (cause : FaultCause) (place : Place) (store : Store) → Given A
 
 -- how a statement ends
 pub data Flow : Type 0 where
@@ -29,25 +29,25 @@ pub data Flow : Type 0 where
   -- the body returns a value
   returns : (value : ℤ) (store : Store) → Flow
   -- a fault at a place of the text
-  fails : (kind : FaultKind) (place : Place) (store : Store) → Flow
+  fails : (cause : FaultCause) (place : Place) (store : Store) → Flow
   -- a task operation; the positions of the open blocks, the outermost first, say what remains to be executed
   stops : (operation : Operation) (positions : List Position) (store : Store) → Flow
 
 -- an expression continues with the value, unless there was a fault
 abbrev pub then_give : {A B : Type 0} → Given A → (A → Store → Given B) → Given B
 then_give (gives value store) next = next value store
-then_give (faults kind place store) next = faults kind place store
+then_give (faults cause place store) next = faults cause place store
 
 -- a statement continues with the value, unless there was a fault
 abbrev pub then_do : {A : Type 0} → Given A → (A → Store → Flow) → Flow
 then_do (gives value store) next = next value store
-then_do (faults kind place store) next = fails kind place store
+then_do (faults cause place store) next = fails cause place store
 
 -- continues with the next statement, unless the body returned, failed or stopped
 abbrev pub then_go : Flow → (Store → Flow) → Flow
 then_go (goes store) next = next store
 then_go (returns value store) next = returns value store
-then_go (fails kind place store) next = fails kind place store
+then_go (fails cause place store) next = fails cause place store
 then_go (stops operation positions store) next = stops operation positions store
 
 -- one unit is taken from this much fuel; a fault if none is left

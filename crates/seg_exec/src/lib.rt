@@ -13,6 +13,7 @@ mod cells;
 mod children;
 mod elements;
 mod entry;
+mod fault;
 mod frame;
 mod give;
 mod laws;
@@ -27,6 +28,7 @@ pub use active::ActiveCall;
 pub use cells::Cells;
 pub use children::Children;
 pub use entry::{effects_at, entry_frame};
+pub use fault::FaultCause;
 pub use frame::{Frame, Next, OpenBody, Position};
 pub use laws::{
     a_segment_is_determined_by_its_reads, a_spawn_has_room, accesses_are_of_the_program,

@@ -7,6 +7,7 @@ ghost use Rattle.seg_exec.specs.inner.Faulting.{scene_at};
 ghost use Rattle.seg_exec.specs.inner.steps.Calls.{calls_of};
 
 use crate::active::ActiveCall;
+use crate::fault::FaultCause;
 use crate::frame::Frame;
 use crate::segment::machine_at;
 use crate::steps::machine::Machine;
@@ -19,6 +20,8 @@ use twe_program::Prog;
 /// What was there when a segment met its fault.
 #[derive(Debug, Drop)]
 pub struct FaultScene {
+    /// What led to the fault.
+    pub cause: FaultCause,
     /// The values of the parameters and locals of the active body.
     pub vars: Ints,
     /// The active method calls, the latest first.
@@ -37,7 +40,8 @@ fn scene_at(
     ensures { IfOk result (λ scene. scene ≡ scene_at ending.now machine.entry.vars.active (calls_of machine.entry.work) cells) }
 {
     match ending {
-        Ending::Faulted { .. } => Ok(Some(FaultScene {
+        Ending::Faulted { cause, .. } => Ok(Some(FaultScene {
+            cause: *cause,
             vars: machine.vars.into_active(alloc)?,
             calls: machine.work.into_calls(alloc)?,
             cells,

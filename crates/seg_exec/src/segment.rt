@@ -132,9 +132,10 @@ fn finish(
 {
     match ending {
         Ending::Returned(value) => Ok(end(alloc, frame, value)),
-        Ending::Faulted { kind, place } => {
+        Ending::Faulted { cause, place } => {
             frame.body = None;
             frame.next = Next::Ended;
+            let kind = cause.kind();
             Ok(Stop::Fault { kind, place })
         }
         Ending::Suspended(held) => {

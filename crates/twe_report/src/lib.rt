@@ -12,8 +12,6 @@ mod reading;
 mod result;
 mod run;
 mod stuck;
-#[cfg(test)]
-mod tests;
 mod unfinished;
 
 pub use journal::journal_part;

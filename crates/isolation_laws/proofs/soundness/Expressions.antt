@@ -33,6 +33,8 @@ use Rattle.seg_exec.specs.Access.{Access, value_in}
 use Rattle.seg_exec.specs.Arithmetic.{is_true, operated, decided}
 use Rattle.seg_exec.specs.Cells.{element_number, grid_element_number}
 use Rattle.seg_exec.specs.Store.{Store, Given, gives, faults, Flow, goes, returns, fails, stops, then_give, unit_of, unit_taken}
+use Rattle.seg_exec.specs.declared.fault.FaultCause.{FaultCause}
+use Rattle.seg_exec.specs.declared.fault.FaultCause.TheVariants.{Index, GridIndex}
 use Rattle.seg_exec.specs.Meaning.{Below, element_read, value_or_fault, right_given, vars_at_start, given_back, entered, called, value_of, values_of}
 use Rattle.effect_check.specs.Acts.{acts_of, acts_of_all, filled_summary}
 use Rattle.effect_check.specs.Standing.{element_of_index, elements_of, path_at}
@@ -158,10 +160,10 @@ module _ (p : Program) (wf : IsWellFormed p) (methods : (i : ℕ) (decl : Decl) 
       within_more es d.0 e (within d.0 d.1) d.2
 
   element_kept : (path : WrittenPath) → IsTrue (covers decl.summary (record { write = false; path = path })) → (cell : Option ℕ)
-      → AtSome (λ n. InSet (under now path) (path_of_cell p n)) cell → (place : Place) (s : Store) → s.vars ≡ vars → Each p es s.accesses
-      → GivenKeeps p es vars AnyValue (element_read cell place s)
-  element_kept path covered None there place s same each = each
-  element_kept path covered (Some cell) there place s same each = (same, (path_covered false path _ covered there, each), refl)
+      → AtSome (λ n. InSet (under now path) (path_of_cell p n)) cell → (missing : FaultCause) (place : Place) (s : Store) → s.vars ≡ vars → Each p es s.accesses
+      → GivenKeeps p es vars AnyValue (element_read cell missing place s)
+  element_kept path covered None there missing place s same each = each
+  element_kept path covered (Some cell) there missing place s same each = (same, (path_covered false path _ covered there, each), refl)
 
   -- a method accesses only what it declares for its arguments, and the caller declares that too
   entered_kept : (method : ℕ) (written : List Elem) (values : List ℤ) → ArgumentsStand now written values
@@ -199,13 +201,13 @@ module _ (p : Program) (wf : IsWellFormed p) (methods : (i : ℕ) (decl : Decl) 
     value_kept point (ArrayElement array index place) covered fits s same each =
         give_kept p es vars (StandsFor vars index) AnyValue (value_of below p index s) _ (value_kept point index covered.1 fits.1 s same each)
         (λ i s1 same1 each1 stand. element_kept (path_at p array (element_of_index index ∷ [])) covered.0 (element_number p array i)
-        (element_touched p wf now array (element_of_index index) i (slice_get p.cells array) refl stand) place s1 same1 each1)
+        (element_touched p wf now array (element_of_index index) i (slice_get p.cells array) refl stand) (Index i) place s1 same1 each1)
     value_kept point (GridElement array row column place) covered fits s same each =
         give_kept p es vars (StandsFor vars row) AnyValue (value_of below p row s) _ (value_kept point row (declared_front p decl (acts_of p point row) (acts_of p point column) covered.1) fits.1 s same each)
         (λ i s1 same1 each1 first.
         give_kept p es vars (StandsFor vars column) AnyValue (value_of below p column s1) _ (value_kept point column (declared_back p decl (acts_of p point row) (acts_of p point column) covered.1) fits.2 s1 same1 each1)
         (λ j s2 same2 each2 second. element_kept (path_at p array (element_of_index row ∷ element_of_index column ∷ [])) covered.0 (grid_element_number p array i j)
-        (grid_element_touched p wf now array (element_of_index row) (element_of_index column) i j (slice_get p.cells array) refl first second) place s2 same2 each2))
+        (grid_element_touched p wf now array (element_of_index row) (element_of_index column) i j (slice_get p.cells array) refl first second) (GridIndex i j) place s2 same2 each2))
     value_kept point (CallValue method given place) covered fits s same each =
         give_kept p es vars (StandFor vars given) AnyValue (values_of below p given s) _ (values_kept point given covered.1 fits.2 s same each)
         (λ values s1 same1 each1 stand. called_kept method (elements_of given) values stand.0

@@ -22,6 +22,8 @@ use Rattle.twe_program.specs.WellFormed.{IsWellFormed, scope_of}
 use Rattle.seg_exec.specs.Arithmetic.{is_true}
 use Rattle.seg_exec.specs.Cells.{element_number, grid_element_number}
 use Rattle.seg_exec.specs.Store.{Store, Given, gives, faults, Flow, goes, returns, fails, stops, then_do, then_go, unit_taken, with_var}
+use Rattle.seg_exec.specs.declared.fault.FaultCause.{FaultCause}
+use Rattle.seg_exec.specs.declared.fault.FaultCause.TheVariants.{Index, GridIndex}
 use Rattle.seg_exec.specs.Meaning.{Below, element_written, value_of, values_of, called, turned, chosen, stopped_at, done_by, done_all, done_arms, done_within}
 use Rattle.effect_check.specs.Acts.{acts_of, acts_of_all, acts_in, acts_in_all, acts_in_one, filled_summary}
 use Rattle.effect_check.specs.Standing.{element_of_index, elements_of, path_at, console_element}
@@ -113,10 +115,10 @@ module _ (p : Program) (wf : IsWellFormed p) (methods : (i : ℕ) (decl : Decl) 
   written vars begins path covered c there = path_covered p wf methods below keeps decl sound args count es within vars begins true path c covered there
 
   element_set : (vars : List ℤ) → take (length args) vars ≡ args → (path : WrittenPath) → IsTrue (covers decl.summary (record { write = true; path = path }))
-      → (cell : Option ℕ) → AtSome (λ n. InSet (under (values_now vars) path) (path_of_cell p n)) cell → (value : ℤ) (place : Place) (s : Store)
-      → s.vars ≡ vars → Each p es s.accesses → Keeps (element_written cell value place s)
-  element_set vars begins path covered None there value place s same each = each
-  element_set vars begins path covered (Some cell) there value place s same each = record {
+      → (cell : Option ℕ) → AtSome (λ n. InSet (under (values_now vars) path) (path_of_cell p n)) cell → (missing : FaultCause) (value : ℤ) (place : Place) (s : Store)
+      → s.vars ≡ vars → Each p es s.accesses → Keeps (element_written cell missing value place s)
+  element_set vars begins path covered None there missing value place s same each = each
+  element_set vars begins path covered (Some cell) there missing value place s same each = record {
     each = (written vars begins path covered (path_of_cell p cell) there, each);
     begins = ap (take (length args)) same ∙ begins;
   }
@@ -150,7 +152,7 @@ module _ (p : Program) (wf : IsWellFormed p) (methods : (i : ℕ) (decl : Decl) 
         (λ i s1 same1 each1 stand.
         valued s.vars kept.begins point value (declared_back p decl (acts_of p point index) (acts_of p point value) fine.declares.1) fine.fits.2 s1 same1 each1 _
         (λ v s2 same2 each2 q. element_set s.vars kept.begins (path_at p array (element_of_index index ∷ [])) fine.declares.0 (element_number p array i)
-        (element_touched p wf (values_now s.vars) array (element_of_index index) i (slice_get p.cells array) refl stand) v place s2 same2 each2))
+        (element_touched p wf (values_now s.vars) array (element_of_index index) i (slice_get p.cells array) refl stand) (Index i) v place s2 same2 each2))
     done_kept (SetGrid point array row column value place) fine s kept =
         let rest = declared_back p decl (acts_of p point row) (acts_of p point column ++ acts_of p point value) fine.declares.1 in
         valued s.vars kept.begins point row (declared_front p decl (acts_of p point row) (acts_of p point column ++ acts_of p point value) fine.declares.1) fine.fits.1 s refl kept.each _
@@ -159,7 +161,7 @@ module _ (p : Program) (wf : IsWellFormed p) (methods : (i : ℕ) (decl : Decl) 
         (λ j s2 same2 each2 second.
         valued s.vars kept.begins point value (declared_back p decl (acts_of p point column) (acts_of p point value) rest) fine.fits.3 s2 same2 each2 _
         (λ v s3 same3 each3 q. element_set s.vars kept.begins (path_at p array (element_of_index row ∷ element_of_index column ∷ [])) fine.declares.0 (grid_element_number p array i j)
-        (grid_element_touched p wf (values_now s.vars) array (element_of_index row) (element_of_index column) i j (slice_get p.cells array) refl first second) v place s3 same3 each3)))
+        (grid_element_touched p wf (values_now s.vars) array (element_of_index row) (element_of_index column) i j (slice_get p.cells array) refl first second) (GridIndex i j) v place s3 same3 each3)))
     done_kept (If point arms) fine s kept = arms_kept 0 point arms (record { declares = fine.declares; fits = fine.fits; assigns = fine.assigns }) s kept
     done_kept (While point condition body place) fine s kept =
         let inside : AllFine p decl body = record { declares = declared_back p decl (acts_of p point condition) (acts_in_all p body) fine.declares; fits = fine.fits.1; assigns = fine.assigns } in

@@ -18,6 +18,8 @@ use Rattle.twe_program.specs.WellFormed.{IsWellFormed, scope_of}
 use Rattle.seg_exec.specs.Access.{value_in}
 use Rattle.seg_exec.specs.Arithmetic.{decided, is_true, operated}
 use Rattle.seg_exec.specs.Cells.{element_number, grid_element_number}
+use Rattle.seg_exec.specs.declared.fault.FaultCause.{FaultCause}
+use Rattle.seg_exec.specs.declared.fault.FaultCause.TheVariants.{Index, GridIndex}
 use Rattle.seg_exec.specs.Meaning.{Below, element_read, right_given, value_of, value_or_fault, values_of}
 use Rattle.seg_exec.specs.Store.{Store, Given}
 use Rattle.effect_check.specs.declared.act.Act.{Act}
@@ -52,10 +54,10 @@ module _ (p : Program) (wf : IsWellFormed p) (effects : KeepsEffects p) (below :
   Keeps Q g = GivenSpares p es vars Q g
 
   element_spares : (path : WrittenPath) → EffectSpares es (record { write = false; path = path }) → (cell : Option ℕ)
-      → AtSome (λ n. InSet (under now path) (path_of_cell p n)) cell → (place : Place) (s : Store) → s.vars ≡ vars → EachSpares p es s.accesses
-      → Keeps AnyValue (element_read cell place s)
-  element_spares path spares None there place s same each = each
-  element_spares path spares (Some cell) there place s same each = (same, (path_spares es now false path _ spares there, each), refl)
+      → AtSome (λ n. InSet (under now path) (path_of_cell p n)) cell → (missing : FaultCause) (place : Place) (s : Store) → s.vars ≡ vars → EachSpares p es s.accesses
+      → Keeps AnyValue (element_read cell missing place s)
+  element_spares path spares None there missing place s same each = each
+  element_spares path spares (Some cell) there missing place s same each = (same, (path_spares es now false path _ spares there, each), refl)
 
   fault_spares : (value : Option ℤ) (place : Place) (s : Store) → s.vars ≡ vars → EachSpares p es s.accesses → Keeps AnyValue (value_or_fault value place s)
   fault_spares None place s same each = each
@@ -80,13 +82,13 @@ module _ (p : Program) (wf : IsWellFormed p) (effects : KeepsEffects p) (below :
     value_spares point (ArrayElement array index place) spare fits s same each =
         give_spares p es vars (StandsFor vars index) AnyValue (value_of below p index s) _ (value_spares point index spare.1 fits.1 s same each)
         (λ i s1 same1 each1 stand. element_spares (path_at p array (element_of_index index ∷ [])) spare.0 (element_number p array i)
-        (element_touched p wf now array (element_of_index index) i (slice_get p.cells array) refl stand) place s1 same1 each1)
+        (element_touched p wf now array (element_of_index index) i (slice_get p.cells array) refl stand) (Index i) place s1 same1 each1)
     value_spares point (GridElement array row column place) spare fits s same each =
         give_spares p es vars (StandsFor vars row) AnyValue (value_of below p row s) _ (value_spares point row (spare_front es (acts_of p point row) (acts_of p point column) spare.1) fits.1 s same each)
         (λ i s1 same1 each1 first.
         give_spares p es vars (StandsFor vars column) AnyValue (value_of below p column s1) _ (value_spares point column (spare_back es (acts_of p point row) (acts_of p point column) spare.1) fits.2 s1 same1 each1)
         (λ j s2 same2 each2 second. element_spares (path_at p array (element_of_index row ∷ element_of_index column ∷ [])) spare.0 (grid_element_number p array i j)
-        (grid_element_touched p wf now array (element_of_index row) (element_of_index column) i j (slice_get p.cells array) refl first second) place s2 same2 each2))
+        (grid_element_touched p wf now array (element_of_index row) (element_of_index column) i j (slice_get p.cells array) refl first second) (GridIndex i j) place s2 same2 each2))
     value_spares point (CallValue method given place) spare fits s same each =
         give_spares p es vars (StandFor vars given) AnyValue (values_of below p given s) _ (values_spare point given spare.1 fits.2 s same each)
         (λ values s1 same1 each1 stand. called_spares p wf effects below keeps es method (elements_of given) values vars stand.0

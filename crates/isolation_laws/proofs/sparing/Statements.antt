@@ -16,6 +16,8 @@ use Rattle.cover_flow.specs.Steps.{IsBranch, followed_by}
 use Rattle.seg_exec.specs.declared.frame.Position.{Position}
 use Rattle.seg_exec.specs.Arithmetic.{is_true}
 use Rattle.seg_exec.specs.Cells.{element_number, grid_element_number}
+use Rattle.seg_exec.specs.declared.fault.FaultCause.{FaultCause}
+use Rattle.seg_exec.specs.declared.fault.FaultCause.TheVariants.{Index, GridIndex}
 use Rattle.seg_exec.specs.Meaning.{Below, called, chosen, done_all, done_arms, done_by, element_written, stopped_at, turned, value_of, values_of}
 use Rattle.seg_exec.specs.Store.{Store, Given, gives, faults, Flow, goes, returns, fails, stops, then_do, then_go, unit_taken}
 use Rattle.effect_check.specs.Acts.{acts_of, acts_of_all}
@@ -99,10 +101,10 @@ module _ (p : Program) (wf : IsWellFormed p) (effects : KeepsEffects p) (below :
   taken vars place s same each next k = do_spares p es vars AnyValue (unit_taken place s) next (unit_spares p es vars place s same each) (λ unit s1 same1 each1 q. k unit s1 same1 each1)
 
   element_set : (vars : List ℤ) (path : WrittenPath) → EffectSpares es (record { write = true; path = path }) → (cell : Option ℕ)
-      → AtSome (λ n. InSet (under (values_now vars) path) (path_of_cell p n)) cell → (value : ℤ) (place : Place) (s : Store) → EachSpares p es s.accesses
-      → FlowSpares p es (element_written cell value place s)
-  element_set vars path spares None there value place s each = each
-  element_set vars path spares (Some cell) there value place s each = (path_spares es (values_now vars) true path (path_of_cell p cell) spares there, each)
+      → AtSome (λ n. InSet (under (values_now vars) path) (path_of_cell p n)) cell → (missing : FaultCause) (value : ℤ) (place : Place) (s : Store) → EachSpares p es s.accesses
+      → FlowSpares p es (element_written cell missing value place s)
+  element_set vars path spares None there missing value place s each = each
+  element_set vars path spares (Some cell) there missing value place s each = (path_spares es (values_now vars) true path (path_of_cell p cell) spares there, each)
 
   turned_spares : (yes : Bool) (place : Place) (body again : Store → Flow) (s : Store) → EachSpares p es s.accesses
       → ((s1 : Store) → EachSpares p es s1.accesses → FlowSpares p es (body s1)) → ((s1 : Store) → EachSpares p es s1.accesses → FlowSpares p es (again s1))
@@ -132,7 +134,7 @@ module _ (p : Program) (wf : IsWellFormed p) (effects : KeepsEffects p) (below :
         (λ i s1 same1 each1 stand.
         valued s.vars point value (spare_back es (acts_of p point index) (acts_of p point value) own.1) fine.fits.0.2 s1 same1 each1 _
         (λ v s2 same2 each2 q. element_set s.vars (path_at p array (element_of_index index ∷ [])) own.0 (element_number p array i)
-        (element_touched p wf (values_now s.vars) array (element_of_index index) i (slice_get p.cells array) refl stand) v place s2 each2))
+        (element_touched p wf (values_now s.vars) array (element_of_index index) i (slice_get p.cells array) refl stand) (Index i) v place s2 each2))
     done_spares (SetGrid point array row column value place) others fine s each =
         let own = fine_own p (scope_of p decl) es (SetGrid point array row column value place) others fine in
         let rest = spare_back es (acts_of p point row) (acts_of p point column ++ acts_of p point value) own.1 in
@@ -142,7 +144,7 @@ module _ (p : Program) (wf : IsWellFormed p) (effects : KeepsEffects p) (below :
         (λ j s2 same2 each2 second.
         valued s.vars point value (spare_back es (acts_of p point column) (acts_of p point value) rest) fine.fits.0.3 s2 same2 each2 _
         (λ v s3 same3 each3 q. element_set s.vars (path_at p array (element_of_index row ∷ element_of_index column ∷ [])) own.0 (grid_element_number p array i j)
-        (grid_element_touched p wf (values_now s.vars) array (element_of_index row) (element_of_index column) i j (slice_get p.cells array) refl first second) v place s3 each3)))
+        (grid_element_touched p wf (values_now s.vars) array (element_of_index row) (element_of_index column) i j (slice_get p.cells array) refl first second) (GridIndex i j) v place s3 each3)))
     done_spares (If point arms) others fine s each =
         arms_spare 0 point arms arms (λ taken is. is) others fine (fine_own p (scope_of p decl) es (If point arms) others fine) fine.fits.0 s each
     done_spares (While point condition body place) others fine s each =

@@ -22,6 +22,7 @@ use Rattle.seg_exec.specs.Arithmetic.{is_true, decided}
 use Rattle.seg_exec.specs.inner.steps.Reached.{Standing, Served, Advances}
 use Rattle.seg_exec.specs.inner.steps.Sizes.{size_of_expression, size_of_arguments, size_of_statement, size_of_all, size_of_arms, size_of_continuation, size_of_work}
 use Rattle.seg_exec.specs.inner.steps.Continuations.{Continuation, Evaluate, Execute, Rest, Choose, Chosen, Turn, Gather, Take, Negate, Invert, Right, Apply, ReadElement, ReadGridElement, GiveVar, GiveCell, GiveElement, GiveGridElement, PrintValue, Discard, Unwind, Suspend, Leave, Config, top, without_operand}
+use Rattle.seg_exec.specs.declared.fault.FaultCause.{FaultCause}
 use Rattle.seg_exec.specs.inner.steps.Steps.{Step, Recovery, ToCaller, OfBlock, NoRecovery, asked_unit, unit_or, chosen_by, turned_by, entered_by, gathered, gathering, right_by, applied, read_at, written_at, unwound, unwound_past, suspended, suspended_past, recovered_from, worked, evaluated, executed, rested, choosing, step_by, step_of}
 
 -- a step that is not the end has no more fuel, and, with as much fuel, less work
@@ -125,13 +126,13 @@ applied_falls : (value : Option ℤ) (place : Place) (c : Config) → Falls c.fu
 applied_falls None place c = tt
 applied_falls (Some value) place c = (omega arith, λ e. omega arith)
 
-read_falls : (cell : Option ℕ) (place : Place) (c : Config) → Falls c.fuel (1 + size_of_work c.work) (read_at cell place c)
-read_falls None place c = tt
-read_falls (Some cell) place c = (omega arith, λ e. omega arith)
+read_falls : (cell : Option ℕ) (missing : FaultCause) (place : Place) (c : Config) → Falls c.fuel (1 + size_of_work c.work) (read_at cell missing place c)
+read_falls None missing place c = tt
+read_falls (Some cell) missing place c = (omega arith, λ e. omega arith)
 
-written_falls : (cell : Option ℕ) (value : ℤ) (place : Place) (c : Config) → Falls c.fuel (1 + size_of_work c.work) (written_at cell value place c)
-written_falls None value place c = tt
-written_falls (Some cell) value place c = (omega arith, λ e. omega arith)
+written_falls : (cell : Option ℕ) (missing : FaultCause) (value : ℤ) (place : Place) (c : Config) → Falls c.fuel (1 + size_of_work c.work) (written_at cell missing value place c)
+written_falls None missing value place c = tt
+written_falls (Some cell) missing value place c = (omega arith, λ e. omega arith)
 
 -- a continuation frame that is dropped is some work
 some_work : (next : Continuation) → 0 < size_of_continuation next
@@ -204,12 +205,12 @@ worked_falls p Negate c = (omega arith, λ e. omega arith)
 worked_falls p Invert c = (omega arith, λ e. omega arith)
 worked_falls p (Right op right place) c = right_falls (decided op (is_true (top c.operands))) op (top c.operands) right place (without_operand c)
 worked_falls p (Apply op place) c = applied_falls _ place (without_operand (without_operand c))
-worked_falls p (ReadElement array place) c = read_falls _ place (without_operand c)
-worked_falls p (ReadGridElement array place) c = read_falls _ place (without_operand (without_operand c))
+worked_falls p (ReadElement array place) c = read_falls _ _ place (without_operand c)
+worked_falls p (ReadGridElement array place) c = read_falls _ _ place (without_operand (without_operand c))
 worked_falls p (GiveVar var) c = (omega arith, λ e. omega arith)
 worked_falls p (GiveCell cell) c = (omega arith, λ e. omega arith)
-worked_falls p (GiveElement array place) c = written_falls _ _ place (without_operand (without_operand c))
-worked_falls p (GiveGridElement array place) c = written_falls _ _ place (without_operand (without_operand (without_operand c)))
+worked_falls p (GiveElement array place) c = written_falls _ _ _ place (without_operand (without_operand c))
+worked_falls p (GiveGridElement array place) c = written_falls _ _ _ place (without_operand (without_operand (without_operand c)))
 worked_falls p (PrintValue place) c = unit_falls _ place (without_operand c) _ (λ left h. h)
 worked_falls p Discard c = (omega arith, λ e. omega arith)
 worked_falls p Unwind c = unwound_falls c.work c

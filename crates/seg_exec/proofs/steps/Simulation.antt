@@ -22,6 +22,8 @@ use Rattle.seg_exec.specs.Access.{Access}
 use Rattle.seg_exec.specs.Arithmetic.{is_true, operated, decided}
 use Rattle.seg_exec.specs.Cells.{element_number, grid_element_number}
 use Rattle.seg_exec.specs.Store.{Store, Given, gives, faults, Flow, goes, returns, fails, stops, then_give, then_do, then_go, unit_taken}
+use Rattle.seg_exec.specs.declared.fault.FaultCause.{FaultCause}
+use Rattle.seg_exec.specs.declared.fault.FaultCause.TheVariants.{Index, GridIndex}
 use Rattle.seg_exec.specs.Meaning.{Below, element_read, element_written, value_or_fault, right_given, body_of, vars_at_start, given_back, entered, called, value_of, values_of, turned, chosen, stopped_at, done_by, done_all, done_arms, done_within}
 use Rattle.seg_exec.specs.inner.steps.Continuations.{Continuation, Evaluate, Execute, Rest, Choose, Chosen, Turn, Gather, Take, Negate, Invert, Right, Apply, ReadElement, ReadGridElement, GiveVar, GiveCell, GiveElement, GiveGridElement, PrintValue, Discard, Unwind, Suspend, Leave, Config, to_do}
 use Rattle.seg_exec.specs.inner.steps.Steps.{Step, on, unit_or, asked_unit, read_at, written_at, right_by, applied, turned_by, chosen_by, entered_by}
@@ -56,40 +58,40 @@ module _ (p : Program) where
   -- fault it ends
   abbrev pub GivenTo : {A : Type 0} → ℕ → Moment → (A → Store → Moment) → Given A → Type 0
   GivenTo bound from to (gives value s) = (s.fuel ≤ bound) × Comes p from (to value s)
-  GivenTo bound from to (faults kind place s) = Ends from (Faulted kind place) s
+  GivenTo bound from to (faults cause place s) = Ends from (Faulted cause place) s
 
   abbrev pub FlowTo : ℕ → Moment → List Continuation → List ℤ → Flow → Type 0
   FlowTo bound from work values (goes s) = (s.fuel ≤ bound) × Comes p from (moment work values s)
   FlowTo bound from work values (returns value s) = (s.fuel ≤ bound) × Comes p from (moment (Unwind ∷ work) (value ∷ values) s)
-  FlowTo bound from work values (fails kind place s) = Ends from (Faulted kind place) s
+  FlowTo bound from work values (fails cause place s) = Ends from (Faulted cause place) s
   FlowTo bound from work values (stops operation positions s) = (s.fuel ≤ bound) × Comes p from (moment (Suspend operation positions ∷ work) values s)
 
   given_later : {A : Type 0} (bound : ℕ) (a b : Moment) (to : A → Store → Moment) (g : Given A) → Comes p a b → GivenTo bound b to g → GivenTo bound a to g
   given_later bound a b to (gives value s) first second = (second.0, onward a b (to value s) first second.1)
-  given_later bound a b to (faults kind place s) first second = ends_later a b (Faulted kind place) s first second
+  given_later bound a b to (faults cause place s) first second = ends_later a b (Faulted cause place) s first second
 
   pub flow_later : (bound : ℕ) (a b : Moment) (work : List Continuation) (values : List ℤ) (f : Flow) → Comes p a b → FlowTo bound b work values f → FlowTo bound a work values f
   flow_later bound a b work values (goes s) first second = (second.0, onward a b _ first second.1)
   flow_later bound a b work values (returns value s) first second = (second.0, onward a b _ first second.1)
-  flow_later bound a b work values (fails kind place s) first second = ends_later a b (Faulted kind place) s first second
+  flow_later bound a b work values (fails cause place s) first second = ends_later a b (Faulted cause place) s first second
   flow_later bound a b work values (stops operation positions s) first second = (second.0, onward a b _ first second.1)
 
   flow_weaker : (least bound : ℕ) (from : Moment) (work : List Continuation) (values : List ℤ) (f : Flow) → least ≤ bound → FlowTo least from work values f → FlowTo bound from work values f
   flow_weaker least bound from work values (goes s) le h = (omega (arith, h.0), h.1)
   flow_weaker least bound from work values (returns value s) le h = (omega (arith, h.0), h.1)
-  flow_weaker least bound from work values (fails kind place s) le h = h
+  flow_weaker least bound from work values (fails cause place s) le h = h
   flow_weaker least bound from work values (stops operation positions s) le h = (omega (arith, h.0), h.1)
 
   -- one after the other
   give_then : {A B : Type 0} (bound : ℕ) (from : Moment) (to : A → Store → Moment) (to' : B → Store → Moment) (g : Given A) (next : A → Store → Given B)
       → GivenTo bound from to g → ((value : A) (s : Store) → s.fuel ≤ bound → GivenTo bound (to value s) to' (next value s)) → GivenTo bound from to' (then_give g next)
   give_then bound from to to' (gives value s) next h k = given_later bound from (to value s) to' (next value s) h.1 (k value s h.0)
-  give_then bound from to to' (faults kind place s) next h k = h
+  give_then bound from to to' (faults cause place s) next h k = h
 
   do_then : {A : Type 0} (bound : ℕ) (from : Moment) (to : A → Store → Moment) (work : List Continuation) (values : List ℤ) (g : Given A) (next : A → Store → Flow)
       → GivenTo bound from to g → ((value : A) (s : Store) → s.fuel ≤ bound → FlowTo bound (to value s) work values (next value s)) → FlowTo bound from work values (then_do g next)
   do_then bound from to work values (gives value s) next h k = flow_later bound from (to value s) work values (next value s) h.1 (k value s h.0)
-  do_then bound from to work values (faults kind place s) next h k = h
+  do_then bound from to work values (faults cause place s) next h k = h
 
   -- after a statement of a block
   pub rest_then : (bound block at : ℕ) (from : Moment) (others : Statements) (work : List Continuation) (values : List ℤ) (f : Flow) (next : Store → Flow)
@@ -98,7 +100,7 @@ module _ (p : Program) where
       → FlowTo bound from work values (then_go (stopped_at block at f) next)
   rest_then bound block at from others work values (goes s) next h k = flow_later bound from _ work values (next s) h.1 (k s h.0)
   rest_then bound block at from others work values (returns value s) next h k = (h.0, onward from _ _ h.1 (one _ _ (λ k. refl)))
-  rest_then bound block at from others work values (fails kind place s) next h k = h
+  rest_then bound block at from others work values (fails cause place s) next h k = h
   rest_then bound block at from others work values (stops operation positions s) next h k = (h.0, onward from _ _ h.1 (one _ _ (λ k. refl)))
 
   -- after the body of a loop
@@ -108,21 +110,21 @@ module _ (p : Program) where
       → FlowTo bound from work values (then_go f next)
   again_then bound from again work values (goes s) next h k = flow_later bound from _ work values (next s) h.1 (k s h.0)
   again_then bound from again work values (returns value s) next h k = (h.0, onward from _ _ h.1 (one _ _ (λ k. refl)))
-  again_then bound from again work values (fails kind place s) next h k = h
+  again_then bound from again work values (fails cause place s) next h k = h
   again_then bound from again work values (stops operation positions s) next h k = (h.0, onward from _ _ h.1 (one _ _ (λ k. refl)))
 
   -- what comes of a step, where it depends on a choice
-  read_meets : (bound : ℕ) (from : Moment) (place : Place) (work : List Continuation) (values : List ℤ) (s : Store) (cell : Option ℕ) → s.fuel ≤ bound
-      → ((k : ℕ) → run p (suc k) from ≡ stepped (run p k) (read_at cell place (moment work values s).config) (moment work values s))
-      → GivenTo bound from (λ v s1. moment work (v ∷ values) s1) (element_read cell place s)
-  read_meets bound from place work values s None h e = last_one from _ s e
-  read_meets bound from place work values s (Some cell) h e = (h, one from _ e)
+  read_meets : (bound : ℕ) (from : Moment) (place : Place) (work : List Continuation) (values : List ℤ) (s : Store) (cell : Option ℕ) (missing : FaultCause) → s.fuel ≤ bound
+      → ((k : ℕ) → run p (suc k) from ≡ stepped (run p k) (read_at cell missing place (moment work values s).config) (moment work values s))
+      → GivenTo bound from (λ v s1. moment work (v ∷ values) s1) (element_read cell missing place s)
+  read_meets bound from place work values s None missing h e = last_one from _ s e
+  read_meets bound from place work values s (Some cell) missing h e = (h, one from _ e)
 
-  written_meets : (bound : ℕ) (from : Moment) (place : Place) (work : List Continuation) (values : List ℤ) (s : Store) (cell : Option ℕ) (value : ℤ) → s.fuel ≤ bound
-      → ((k : ℕ) → run p (suc k) from ≡ stepped (run p k) (written_at cell value place (moment work values s).config) (moment work values s))
-      → FlowTo bound from work values (element_written cell value place s)
-  written_meets bound from place work values s None value h e = last_one from _ s e
-  written_meets bound from place work values s (Some cell) value h e = (h, one from _ e)
+  written_meets : (bound : ℕ) (from : Moment) (place : Place) (work : List Continuation) (values : List ℤ) (s : Store) (cell : Option ℕ) (missing : FaultCause) (value : ℤ) → s.fuel ≤ bound
+      → ((k : ℕ) → run p (suc k) from ≡ stepped (run p k) (written_at cell missing value place (moment work values s).config) (moment work values s))
+      → FlowTo bound from work values (element_written cell missing value place s)
+  written_meets bound from place work values s None missing value h e = last_one from _ s e
+  written_meets bound from place work values s (Some cell) missing value h e = (h, one from _ e)
 
   applied_meets : (bound : ℕ) (from : Moment) (place : Place) (work : List Continuation) (values : List ℤ) (s : Store) (value : Option ℤ) → s.fuel ≤ bound
       → ((k : ℕ) → run p (suc k) from ≡ stepped (run p k) (applied value place (moment work values s).config) (moment work values s))
@@ -166,7 +168,7 @@ module _ (p : Program) where
       → FlowTo least from (Leave vars ∷ work) values f → GivenTo bound from (λ v s. moment work (v ∷ values) s) (given_back vars f)
   back_meets least bound from vars work values (goes s) le h = (omega (arith, h.0), onward from _ _ h.1 (one _ _ (λ k. refl)))
   back_meets least bound from vars work values (returns value s) le h = (omega (arith, h.0), onward from _ _ h.1 (one _ _ (λ k. refl)))
-  back_meets least bound from vars work values (fails kind place s) le h = h
+  back_meets least bound from vars work values (fails cause place s) le h = h
   back_meets least bound from vars work values (stops operation positions s) le h = (omega (arith, h.0), onward from _ _ h.1 (one _ _ (λ k. refl)))
 
   -- what takes a unit of fuel and comes after it meets its meaning, where less than n units are left
@@ -224,16 +226,16 @@ module _ (p : Program) where
       value_meets (ArrayElement array index place) bound le s h work values =
           given_later bound _ (moment (Evaluate index ∷ (ReadElement array place ∷ work)) values s) (λ v s1. moment work (v ∷ values) s1) _ (one _ _ (λ k. refl))
           (give_then bound _ (λ v s1. moment (ReadElement array place ∷ work) (v ∷ values) s1) (λ v s1. moment work (v ∷ values) s1) (value_of below p index s)
-          (λ i s1. element_read (element_number p array i) place s1) (value_meets index bound le s h (ReadElement array place ∷ work) values)
-          (λ i s1 h1. read_meets bound _ place work values s1 (element_number p array i) h1 (λ k. refl)))
+          (λ i s1. element_read (element_number p array i) (Index i) place s1) (value_meets index bound le s h (ReadElement array place ∷ work) values)
+          (λ i s1 h1. read_meets bound _ place work values s1 (element_number p array i) (Index i) h1 (λ k. refl)))
       value_meets (GridElement array row column place) bound le s h work values =
           given_later bound _ (moment (Evaluate row ∷ (Evaluate column ∷ (ReadGridElement array place ∷ work))) values s) (λ v s1. moment work (v ∷ values) s1) _ (one _ _ (λ k. refl))
           (give_then bound _ (λ v s1. moment (Evaluate column ∷ (ReadGridElement array place ∷ work)) (v ∷ values) s1) (λ v s1. moment work (v ∷ values) s1) (value_of below p row s)
-          (λ i s1. then_give (value_of below p column s1) (λ j s2. element_read (grid_element_number p array i j) place s2))
+          (λ i s1. then_give (value_of below p column s1) (λ j s2. element_read (grid_element_number p array i j) (GridIndex i j) place s2))
           (value_meets row bound le s h (Evaluate column ∷ (ReadGridElement array place ∷ work)) values)
           (λ i s1 h1. give_then bound _ (λ v s2. moment (ReadGridElement array place ∷ work) (v ∷ (i ∷ values)) s2) (λ v s2. moment work (v ∷ values) s2) (value_of below p column s1)
-          (λ j s2. element_read (grid_element_number p array i j) place s2) (value_meets column bound le s1 h1 (ReadGridElement array place ∷ work) (i ∷ values))
-          (λ j s2 h2. read_meets bound _ place work values s2 (grid_element_number p array i j) h2 (λ k. refl))))
+          (λ j s2. element_read (grid_element_number p array i j) (GridIndex i j) place s2) (value_meets column bound le s1 h1 (ReadGridElement array place ∷ work) (i ∷ values))
+          (λ j s2 h2. read_meets bound _ place work values s2 (grid_element_number p array i j) (GridIndex i j) h2 (λ k. refl))))
       value_meets (CallValue method args place) bound le s h work values =
           given_later bound _ (moment (Gather [] args (goals.Enter method place) ∷ work) values s) (λ v s1. moment work (v ∷ values) s1) _ (one _ _ (λ k. refl))
           (give_then bound _ (λ vs s1. moment (Gather vs exprs.no_more (goals.Enter method place) ∷ work) values s1) (λ v s1. moment work (v ∷ values) s1) (values_of below p args s)
@@ -315,22 +317,22 @@ module _ (p : Program) where
       statement_meets (SetArray point array index value place) bound le s h work values =
           flow_later bound _ (moment (Evaluate index ∷ (Evaluate value ∷ (GiveElement array place ∷ work))) values s) work values _ (one _ _ (λ k. refl))
           (do_then bound _ (λ v s1. moment (Evaluate value ∷ (GiveElement array place ∷ work)) (v ∷ values) s1) work values (value_of below p index s)
-          (λ i s1. then_do (value_of below p value s1) (λ v s2. element_written (element_number p array i) v place s2))
+          (λ i s1. then_do (value_of below p value s1) (λ v s2. element_written (element_number p array i) (Index i) v place s2))
           (value_meets index bound le s h (Evaluate value ∷ (GiveElement array place ∷ work)) values)
           (λ i s1 h1. do_then bound _ (λ v s2. moment (GiveElement array place ∷ work) (v ∷ (i ∷ values)) s2) work values (value_of below p value s1)
-          (λ v s2. element_written (element_number p array i) v place s2) (value_meets value bound le s1 h1 (GiveElement array place ∷ work) (i ∷ values))
-          (λ v s2 h2. written_meets bound _ place work values s2 (element_number p array i) v h2 (λ k. refl))))
+          (λ v s2. element_written (element_number p array i) (Index i) v place s2) (value_meets value bound le s1 h1 (GiveElement array place ∷ work) (i ∷ values))
+          (λ v s2 h2. written_meets bound _ place work values s2 (element_number p array i) (Index i) v h2 (λ k. refl))))
       statement_meets (SetGrid point array row column value place) bound le s h work values =
           flow_later bound _ (moment (Evaluate row ∷ (Evaluate column ∷ (Evaluate value ∷ (GiveGridElement array place ∷ work)))) values s) work values _ (one _ _ (λ k. refl))
           (do_then bound _ (λ v s1. moment (Evaluate column ∷ (Evaluate value ∷ (GiveGridElement array place ∷ work))) (v ∷ values) s1) work values (value_of below p row s)
-          (λ i s1. then_do (value_of below p column s1) (λ j s2. then_do (value_of below p value s2) (λ v s3. element_written (grid_element_number p array i j) v place s3)))
+          (λ i s1. then_do (value_of below p column s1) (λ j s2. then_do (value_of below p value s2) (λ v s3. element_written (grid_element_number p array i j) (GridIndex i j) v place s3)))
           (value_meets row bound le s h (Evaluate column ∷ (Evaluate value ∷ (GiveGridElement array place ∷ work))) values)
           (λ i s1 h1. do_then bound _ (λ v s2. moment (Evaluate value ∷ (GiveGridElement array place ∷ work)) (v ∷ (i ∷ values)) s2) work values (value_of below p column s1)
-          (λ j s2. then_do (value_of below p value s2) (λ v s3. element_written (grid_element_number p array i j) v place s3))
+          (λ j s2. then_do (value_of below p value s2) (λ v s3. element_written (grid_element_number p array i j) (GridIndex i j) v place s3))
           (value_meets column bound le s1 h1 (Evaluate value ∷ (GiveGridElement array place ∷ work)) (i ∷ values))
           (λ j s2 h2. do_then bound _ (λ v s3. moment (GiveGridElement array place ∷ work) (v ∷ (j ∷ (i ∷ values))) s3) work values (value_of below p value s2)
-          (λ v s3. element_written (grid_element_number p array i j) v place s3) (value_meets value bound le s2 h2 (GiveGridElement array place ∷ work) (j ∷ (i ∷ values)))
-          (λ v s3 h3. written_meets bound _ place work values s3 (grid_element_number p array i j) v h3 (λ k. refl)))))
+          (λ v s3. element_written (grid_element_number p array i j) (GridIndex i j) v place s3) (value_meets value bound le s2 h2 (GiveGridElement array place ∷ work) (j ∷ (i ∷ values)))
+          (λ v s3 h3. written_meets bound _ place work values s3 (grid_element_number p array i j) (GridIndex i j) v h3 (λ k. refl)))))
       statement_meets (If point arms) bound le s h work values =
           flow_later bound _ _ work values (done_arms below p 0 arms s) (one _ _ (λ k. refl)) (arms_meet arms 0 bound le s h work values)
       statement_meets (While point condition body place) bound le s h work values =

@@ -42,13 +42,13 @@ module _ (p : Program) where
   abbrev pub outcome_of : Flow → Outcome
   outcome_of (goes s) = Over (Returned (pos 0)) s
   outcome_of (returns value s) = Over (Returned value) s
-  outcome_of (fails kind place s) = Over (Faulted kind place) s
+  outcome_of (fails cause place s) = Over (Faulted cause place) s
   outcome_of (stops operation positions s) = Over (suspended_at operation positions) s
 
   pub ends_so : (bound : ℕ) (from : Moment) (f : Flow) → FlowTo p bound from [] [] f → (k : ℕ) × (run p k from ≡ outcome_of f)
   ends_so bound from (goes s) h = let x = h.1.by 1 in (x.0, x.2)
   ends_so bound from (returns value s) h = let x = h.1.by 1 in (x.0, x.2)
-  ends_so bound from (fails kind place s) h = h.by
+  ends_so bound from (fails cause place s) h = h.by
   ends_so bound from (stops operation positions s) h = let x = h.1.by 1 in (x.0, x.2)
 
   -- a run has one end

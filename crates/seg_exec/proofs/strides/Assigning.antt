@@ -2,7 +2,6 @@
 use Rattle.std.proofs.Common.{◌≡◌, ℕ, ℤ, Option, None, Some, Result, Ok, Err, List, ◌∷◌, refl, sym, subst}
 use Rattle.std.specs.Prelude.{slice_set}
 use Rattle.twe_base.specs.declared.place.Place.{Place}
-use Rattle.twe_base.specs.declared.fault.FaultKind.TheVariants.{Index}
 use Rattle.twe_program.specs.Program.{Program}
 use Rattle.twe_program.specs.Expression.{Expression}
 use Rattle.twe_program.specs.Statement.{Statement}
@@ -17,6 +16,8 @@ use Rattle.seg_exec.specs.Cells.{cell_number, element_number}
 use Rattle.seg_exec.specs.inner.strides.Assignments.{Does, MayDo, MayWriteAt, WritesAt, executing, giving_to, to_element, to_target}
 use Rattle.seg_exec.specs.inner.steps.Continuations.{Config, Continuation, Evaluate, GiveVar, GiveCell, GiveElement}
 use Rattle.seg_exec.specs.inner.steps.Reached.{MayRequest, Served}
+use Rattle.seg_exec.specs.declared.fault.FaultCause.{FaultCause}
+use Rattle.seg_exec.specs.declared.fault.FaultCause.TheVariants.{Index}
 use Rattle.seg_exec.specs.inner.steps.Steps.{Step, executed, on, step_of, written_at}
 use Rattle.seg_exec.specs.inner.strides.Strides.{EvaluatesTo, Goes, MayEvaluate, fault_ending, stand}
 use Rattle.seg_exec.proofs.strides.Strides.{ended, ends_alike, may_now, may_then, one_step, silent, then_ends, then_goes}
@@ -52,9 +53,9 @@ module _ {C : Type 0} (p : Program) (ways : Ways C) where
         (one_step p ways (stand (GiveCell cell ∷ work) (v ∷ operands) vars fuel calls mid prints) (stand work operands vars fuel calls new prints) (refl, refl, has, refl))
 
   -- the step that writes an element
-  may_write_at : (cell : Option ℕ) (value : ℤ) (place : Place) (cells : C) (config : Config) → MayRequest ways cells (written_at cell value place config).0 → MayWriteAt ways cells cell
-  may_write_at None value place cells config h k is = absurd (cc)
-  may_write_at (Some cell) value place cells config h k is = let same : cell ≡ k = cc in subst (λ (i : ℕ). ways.may_write cells i) same h
+  may_write_at : (cell : Option ℕ) (missing : FaultCause) (value : ℤ) (place : Place) (cells : C) (config : Config) → MayRequest ways cells (written_at cell missing value place config).0 → MayWriteAt ways cells cell
+  may_write_at None missing value place cells config h k is = absurd (cc)
+  may_write_at (Some cell) missing value place cells config h k is = let same : cell ≡ k = cc in subst (λ (i : ℕ). ways.may_write cells i) same h
 
   module _ (index value : Expression) (array : ℕ) (place : Place) where
     pub index_may : (vars : List ℤ) (cells : C) → MayDo p ways (to_element index value array place) vars cells → MayEvaluate p ways index vars cells
@@ -97,22 +98,22 @@ module _ {C : Type 0} (p : Program) (ways : Ways C) where
     pub element_may_write : (vars : List ℤ) (old mid next : C) (i v : ℤ) → MayDo p ways (to_element index value array place) vars old → EvaluatesTo p ways index vars old (Ok i) mid → EvaluatesTo p ways value vars mid (Ok v) next
         → MayWriteAt ways next (element_number p array i)
     element_may_write vars old mid next i v m h g =
-        may_write_at (element_number p array i) v place next _
+        may_write_at (element_number p array i) (Index i) v place next _
         (may_now p ways (stand (GiveElement array place ∷ m.work) (v ∷ (i ∷ m.operands)) vars m.fuel m.calls next m.prints)
         (may_then p ways _ _ m.may (both vars old mid next i v h g m.work m.operands m.fuel m.calls m.prints)))
 
-    element_by : (cell : Option ℕ) (vars : List ℤ) (old mid next new : C) (i v : ℤ) (result : Carried) → EvaluatesTo p ways index vars old (Ok i) mid → EvaluatesTo p ways value vars mid (Ok v) next
+    element_by : (cell : Option ℕ) (missing : FaultCause) (vars : List ℤ) (old mid next new : C) (i v : ℤ) (result : Carried) → EvaluatesTo p ways index vars old (Ok i) mid → EvaluatesTo p ways value vars mid (Ok v) next
         → ((work : List Continuation) (operands : List ℤ) (fuel : ℕ) (calls : List ActiveCall)
         → step_of p (record { work = GiveElement array place ∷ work; operands = v ∷ (i ∷ operands); vars = vars; fuel = fuel; calls = calls })
-        ≡ written_at cell v place (record { work = work; operands = operands; vars = vars; fuel = fuel; calls = calls }))
-        → WritesAt ways cell v place next result new → Does p ways (to_element index value array place) vars old result vars new
-    element_by None vars old mid next new i v result h g is has =
+        ≡ written_at cell missing v place (record { work = work; operands = operands; vars = vars; fuel = fuel; calls = calls }))
+        → WritesAt ways cell missing v place next result new → Does p ways (to_element index value array place) vars old result vars new
+    element_by None missing vars old mid next new i v result h g is has =
         subst (λ (r : Carried). Does p ways (to_element index value array place) vars old r vars new) (sym has.0)
-        (subst (λ (c : C). Does p ways (to_element index value array place) vars old (Faulted (record { kind = Index; place = place })) vars c) (sym has.1)
+        (subst (λ (c : C). Does p ways (to_element index value array place) vars old (Faulted (record { cause = missing; place = place })) vars c) (sym has.1)
         (λ work operands fuel calls prints.
         then_ends p ways _ _ _ _ (both vars old mid next i v h g work operands fuel calls prints)
         (ended p ways (stand (GiveElement array place ∷ work) (v ∷ (i ∷ operands)) vars fuel calls next prints) _ _ (is work operands fuel calls))))
-    element_by (Some cell) vars old mid next new i v result h g is has =
+    element_by (Some cell) missing vars old mid next new i v result h g is has =
         subst (λ (r : Carried). Does p ways (to_element index value array place) vars old r vars new) (sym has.0)
         (λ work operands fuel calls prints.
         then_goes p ways _ _ _ (both vars old mid next i v h g work operands fuel calls prints)
@@ -121,8 +122,8 @@ module _ {C : Type 0} (p : Program) (ways : Ways C) where
         (refl, refl, has.1, refl))))
 
     pub element_done : (vars : List ℤ) (old mid next new : C) (i v : ℤ) (result : Carried) → EvaluatesTo p ways index vars old (Ok i) mid → EvaluatesTo p ways value vars mid (Ok v) next
-        → WritesAt ways (element_number p array i) v place next result new → Does p ways (to_element index value array place) vars old result vars new
-    element_done vars old mid next new i v result h g has = element_by (element_number p array i) vars old mid next new i v result h g (λ work operands fuel calls. refl) has
+        → WritesAt ways (element_number p array i) (Index i) v place next result new → Does p ways (to_element index value array place) vars old result vars new
+    element_done vars old mid next new i v result h g has = element_by (element_number p array i) (Index i) vars old mid next new i v result h g (λ work operands fuel calls. refl) has
 
   -- a statement whose first step leads to these frames
   module _ (s : Statement) (tasks : List Continuation → List Continuation) where

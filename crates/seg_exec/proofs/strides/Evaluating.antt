@@ -2,7 +2,6 @@
 use Rattle.std.proofs.Common.{◌≡◌, ◌&&◌, ℕ, ℤ, Bool, true, false, Option, None, Some, Result, Ok, Err, List, ◌∷◌, refl, ap, sym, ◌∙◌, subst}
 use Rattle.std.specs.Prelude.{IsErrAnd, slice_get}
 use Rattle.twe_base.specs.declared.place.Place.{Place}
-use Rattle.twe_base.specs.declared.fault.FaultKind.TheVariants.{Index}
 use Rattle.twe_ast.specs.declared.expr.BinOp.{BinOp}
 use Rattle.twe_program.specs.Program.{Program}
 use Rattle.twe_program.specs.Expression.{Expression, Literal, Truth, Variable, CellValue, ArrayElement, GridElement, CallValue, Negative, Negation, Binary}
@@ -15,6 +14,8 @@ use Rattle.seg_exec.specs.inner.steps.Continuations.{Continuation, Config, Apply
 use Rattle.seg_exec.specs.inner.strides.Leaves.{decided_or, leaf_value, pair_value, value_on}
 use Rattle.seg_exec.specs.inner.strides.Plainly.{is_plain}
 use Rattle.seg_exec.specs.inner.steps.Reached.{MayRequest, Served, Standing}
+use Rattle.seg_exec.specs.declared.fault.FaultCause.{FaultCause}
+use Rattle.seg_exec.specs.declared.fault.FaultCause.TheVariants.{Index, GridIndex}
 use Rattle.seg_exec.specs.inner.steps.Steps.{Step, applied, read_at, right_by, step_of}
 use Rattle.seg_exec.specs.inner.strides.Strides.{Ends, EvaluatesTo, Gives, Goes, MayEvaluate, MayReadAt, ReadsAt, fault_ending, quotient_or, stand}
 use Rattle.seg_exec.proofs.strides.Strides.{ended, ends_alike, may_now, may_then, one_step, silent, then_ends, then_goes}
@@ -58,22 +59,22 @@ module _ {C : Type 0} (p : Program) (ways : Ways C) (vars : List ℤ) where
   gives_after from mid work operands fuel calls prints (Err fault) new first second = then_ends p ways from mid _ _ first second
 
   -- the step that reads an element
-  gives_read : (cell : Option ℕ) (place : Place) (from : Config) (work : List Continuation) (operands : List ℤ) (fuel : ℕ) (calls : List ActiveCall) (prints : List ℤ) (old new : C) (result : Result ℤ Fault)
-      → step_of p from ≡ read_at cell place (record { work = work; operands = operands; vars = vars; fuel = fuel; calls = calls })
-      → ReadsAt ways cell place old result new → Gives p ways (record { config = from; cells = old; prints = prints }) work operands vars fuel calls prints result new
-  gives_read None place from work operands fuel calls prints old new result is h =
+  gives_read : (cell : Option ℕ) (missing : FaultCause) (place : Place) (from : Config) (work : List Continuation) (operands : List ℤ) (fuel : ℕ) (calls : List ActiveCall) (prints : List ℤ) (old new : C) (result : Result ℤ Fault)
+      → step_of p from ≡ read_at cell missing place (record { work = work; operands = operands; vars = vars; fuel = fuel; calls = calls })
+      → ReadsAt ways cell missing place old result new → Gives p ways (record { config = from; cells = old; prints = prints }) work operands vars fuel calls prints result new
+  gives_read None missing place from work operands fuel calls prints old new result is h =
       subst (λ (r : Result ℤ Fault). Gives p ways (record { config = from; cells = old; prints = prints }) work operands vars fuel calls prints r new) (sym h.0)
-      (subst (λ (c : C). Ends p ways (record { config = from; cells = old; prints = prints }) (fault_ending (record { kind = Index; place = place })) (stand work operands vars fuel calls c prints)) (sym h.1)
+      (subst (λ (c : C). Ends p ways (record { config = from; cells = old; prints = prints }) (fault_ending (record { cause = missing; place = place })) (stand work operands vars fuel calls c prints)) (sym h.1)
       (ended p ways (record { config = from; cells = old; prints = prints }) _ _ is))
-  gives_read (Some cell) place from work operands fuel calls prints old new result is h =
+  gives_read (Some cell) missing place from work operands fuel calls prints old new result is h =
       subst (λ (r : Result ℤ Fault). Gives p ways (record { config = from; cells = old; prints = prints }) work operands vars fuel calls prints r new) (sym h.1)
       (one_step p ways (record { config = from; cells = old; prints = prints }) (stand work (h.0 ∷ operands) vars fuel calls new prints)
       (subst (λ (step : Step). Served ways step.0 (record { config = step.1; cells = old; prints = prints }) None (stand work (h.0 ∷ operands) vars fuel calls new prints)) (sym is)
       (h.0, refl, refl, h.2, refl)))
 
-  may_read_at : (cell : Option ℕ) (place : Place) (cells : C) (config : Config) → MayRequest ways cells (read_at cell place config).0 → MayReadAt ways cells cell
-  may_read_at None place cells config h k is = absurd (cc)
-  may_read_at (Some cell) place cells config h k is = let same : cell ≡ k = cc in subst (λ (i : ℕ). ways.may_read cells i) same h
+  may_read_at : (cell : Option ℕ) (missing : FaultCause) (place : Place) (cells : C) (config : Config) → MayRequest ways cells (read_at cell missing place config).0 → MayReadAt ways cells cell
+  may_read_at None missing place cells config h k is = absurd (cc)
+  may_read_at (Some cell) missing place cells config h k is = let same : cell ≡ k = cc in subst (λ (i : ℕ). ways.may_read cells i) same h
 
   -- an element of an array
   module _ (array : ℕ) (index : Expression) (place : Place) where
@@ -98,14 +99,14 @@ module _ {C : Type 0} (p : Program) (ways : Ways C) (vars : List ℤ) where
 
     pub element_may_read : (old mid : C) (i : ℤ) → MayEvaluate p ways (ArrayElement array index place) vars old → EvaluatesTo p ways index vars old (Ok i) mid → MayReadAt ways mid (element_number p array i)
     element_may_read old mid i m h =
-        may_read_at (element_number p array i) place mid _ (may_now p ways _ (may_then p ways _ _ m.may (then_goes p ways _ _ _ (first_of_element m.work m.operands m.fuel m.calls old m.prints) (h (ReadElement array place ∷ m.work) m.operands m.fuel m.calls m.prints))))
+        may_read_at (element_number p array i) (Index i) place mid _ (may_now p ways _ (may_then p ways _ _ m.may (then_goes p ways _ _ _ (first_of_element m.work m.operands m.fuel m.calls old m.prints) (h (ReadElement array place ∷ m.work) m.operands m.fuel m.calls m.prints))))
 
-    pub element_read : (old mid new : C) (i : ℤ) (result : Result ℤ Fault) → EvaluatesTo p ways index vars old (Ok i) mid → ReadsAt ways (element_number p array i) place mid result new
+    pub element_read : (old mid new : C) (i : ℤ) (result : Result ℤ Fault) → EvaluatesTo p ways index vars old (Ok i) mid → ReadsAt ways (element_number p array i) (Index i) place mid result new
         → EvaluatesTo p ways (ArrayElement array index place) vars old result new
     element_read old mid new i result h has work operands fuel calls prints =
         gives_after _ _ work operands fuel calls prints result new
         (then_goes p ways _ _ _ (first_of_element work operands fuel calls old prints) (h (ReadElement array place ∷ work) operands fuel calls prints))
-        (gives_read (element_number p array i) place _ work operands fuel calls prints mid new result refl has)
+        (gives_read (element_number p array i) (Index i) place _ work operands fuel calls prints mid new result refl has)
 
   -- an element of a grid
   module _ (array : ℕ) (row column : Expression) (place : Place) where
@@ -160,14 +161,14 @@ module _ {C : Type 0} (p : Program) (ways : Ways C) (vars : List ℤ) where
     pub grid_may_read : (old mid next : C) (i j : ℤ) → MayEvaluate p ways (GridElement array row column place) vars old → EvaluatesTo p ways row vars old (Ok i) mid → EvaluatesTo p ways column vars mid (Ok j) next
         → MayReadAt ways next (grid_element_number p array i j)
     grid_may_read old mid next i j m h g =
-        may_read_at (grid_element_number p array i j) place next _ (may_now p ways _ (may_then p ways _ _ m.may (to_read old mid next i j m.work m.operands m.fuel m.calls m.prints h g)))
+        may_read_at (grid_element_number p array i j) (GridIndex i j) place next _ (may_now p ways _ (may_then p ways _ _ m.may (to_read old mid next i j m.work m.operands m.fuel m.calls m.prints h g)))
 
     pub grid_read : (old mid next new : C) (i j : ℤ) (result : Result ℤ Fault) → EvaluatesTo p ways row vars old (Ok i) mid → EvaluatesTo p ways column vars mid (Ok j) next
-        → ReadsAt ways (grid_element_number p array i j) place next result new → EvaluatesTo p ways (GridElement array row column place) vars old result new
+        → ReadsAt ways (grid_element_number p array i j) (GridIndex i j) place next result new → EvaluatesTo p ways (GridElement array row column place) vars old result new
     grid_read old mid next new i j result h g has work operands fuel calls prints =
         gives_after _ _ work operands fuel calls prints result new
         (to_read old mid next i j work operands fuel calls prints h g)
-        (gives_read (grid_element_number p array i j) place _ work operands fuel calls prints next new result refl has)
+        (gives_read (grid_element_number p array i j) (GridIndex i j) place _ work operands fuel calls prints next new result refl has)
 
   -- a sign and a negation
   module _ (operand : Expression) where

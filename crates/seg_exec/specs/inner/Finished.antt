@@ -7,6 +7,7 @@ use Rattle.seg_exec.specs.declared.stop.Stop.{Stop}
 use Rattle.seg_exec.specs.declared.stop.Stop.TheVariants.{Fault}
 use Rattle.seg_exec.specs.declared.steps.request.Ending.{Ending}
 use Rattle.seg_exec.specs.declared.steps.request.Ending.TheVariants.{Returned, Faulted, Suspended}
+use Rattle.seg_exec.specs.Causes.{fault_kind}
 use Rattle.seg_exec.specs.Segment.{closing, closing_stop, operation_next, operation_out, operation_stop}
 
 -- the frame whose body ended with this value: it joins its unjoined children next, or it is done
@@ -16,7 +17,7 @@ ended_with frame value = record frame { body = None; next = closing frame.out.it
 -- the frame and the stop by how the run of the evaluator ended, with the variables that it left
 abbrev pub finished : Program → Frame → List ℤ → Ending → Frame × Stop
 finished p frame vars (Returned value) = (ended_with frame value, closing_stop frame.out.items value)
-finished p frame vars (Faulted kind place) = (record frame { body = None; next = Ended }, Fault kind place)
+finished p frame vars (Faulted cause place) = (record frame { body = None; next = Ended }, Fault (fault_kind cause) place)
 finished p frame vars (Suspended held) = (
   -- the frame keeps the body, open at the operation
   record frame {

@@ -6,13 +6,14 @@ ghost use Rattle.seg_exec.specs.inner.steps.Steps.{asked_unit, on};
 ghost use Rattle.seg_exec.specs.inner.steps.Views.{config_of};
 ghost use Rattle.seg_exec.specs.declared.steps.continuation.Goal.TheVariants.{Enter};
 
+use crate::fault::FaultCause;
 use crate::operation::Operation;
 use crate::steps::continuation::{Continuation, Gathering, Goal, Suspension};
 use crate::steps::held::Held;
 use crate::steps::machine::{Machine, fault};
 use crate::steps::request::Request;
 use std::alloc::Global;
-use twe_base::{FaultKind, Ints, MAX_ACTIVE_CALLS, Memory, Place, Stack};
+use twe_base::{Ints, MAX_ACTIVE_CALLS, Memory, Place, Stack};
 use twe_program::{Args, Decl, Expr, Prog};
 
 impl<'a> Machine<'a> {
@@ -74,7 +75,7 @@ impl<'a> Machine<'a> {
             ≡ asked_unit place (config_of self.old) (λ c. on (to_do (Suspend operation []) c))) }
     {
         if self.fuel == 0 {
-            return Ok(fault(FaultKind::Fuel, place));
+            return Ok(fault(FaultCause::Fuel, place));
         }
         self.fuel -= 1;
         let suspension = Suspension {

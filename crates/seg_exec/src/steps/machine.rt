@@ -6,19 +6,20 @@ ghost use Rattle.seg_exec.specs.declared.steps.request.Request.TheVariants.{End}
 ghost use Rattle.seg_exec.specs.declared.steps.request.Ending.TheVariants.{Faulted};
 ghost use Rattle.seg_exec.specs.inner.steps.Views.{config_of, config_with, use_of};
 
+use crate::fault::FaultCause;
 use crate::steps::continuation::{Continuation, OpenBlock, ValueUse};
 use crate::steps::frames::Frames;
 use crate::steps::pushdown::Pushdown;
 use crate::steps::request::{Ending, Request};
 use crate::steps::variables::Variables;
-use twe_base::{FaultKind, Memory, Place};
+use twe_base::{Memory, Place};
 use twe_program::Expr;
 
 /// The request to end with a fault at a place of the text.
-pub(crate) fn fault(kind: FaultKind, place: Place) -> Request
-    ensures { result ≡ End (Faulted kind place) }
+pub(crate) fn fault(cause: FaultCause, place: Place) -> Request
+    ensures { result ≡ End (Faulted cause place) }
 {
-    Request::End(Ending::Faulted { kind, place })
+    Request::End(Ending::Faulted { cause, place })
 }
 
 /// The state of the evaluator.

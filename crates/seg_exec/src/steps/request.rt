@@ -1,7 +1,8 @@
 //! What one step of the evaluator requests from whoever runs it, and how a run ends.
 
+use crate::fault::FaultCause;
 use crate::steps::held::Held;
-use twe_base::{FaultKind, Place};
+use twe_base::Place;
 
 /// How a run of the evaluator ends.
 #[derive(Debug, Drop)]
@@ -10,8 +11,8 @@ pub(crate) enum Ending {
     Returned(i32),
     /// A fault ended it.
     Faulted {
-        /// The kind of fault.
-        kind: FaultKind,
+        /// What led to it.
+        cause: FaultCause,
         /// Its place in the text.
         place: Place,
     },

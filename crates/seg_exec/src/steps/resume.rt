@@ -10,11 +10,12 @@ ghost use Rattle.seg_exec.specs.inner.steps.Steps.{back_with, chosen_next, choos
 ghost use Rattle.seg_exec.specs.inner.steps.Views.{config_of, config_under};
 
 use crate::arithmetic::is_true;
+use crate::fault::FaultCause;
 use crate::steps::continuation::{Continuation, Recovered, ValueUse};
 use crate::steps::held::Held;
 use crate::steps::machine::{Machine, fault};
 use crate::steps::request::{Ending, Request};
-use twe_base::{FaultKind, Memory, Place};
+use twe_base::{Memory, Place};
 use twe_program::{Arm, Block, Stmt};
 
 impl<'a> Machine<'a> {
@@ -112,7 +113,7 @@ impl<'a> Machine<'a> {
     {
         if is_true(self.pop_operand()) {
             if self.fuel == 0 {
-                return Ok(fault(FaultKind::Fuel, place));
+                return Ok(fault(FaultCause::Fuel, place));
             }
             self.fuel -= 1;
             self.push(Continuation::Execute(again))?;

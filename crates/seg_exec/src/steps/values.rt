@@ -8,10 +8,11 @@ ghost use Rattle.seg_exec.specs.inner.steps.Views.{config_of};
 
 use crate::arithmetic::{decide, invert, is_true, negate, operate};
 use crate::elements::{element_number, grid_element_number};
+use crate::fault::FaultCause;
 use crate::steps::continuation::{Continuation, ValueUse};
 use crate::steps::machine::{Machine, fault};
 use crate::steps::request::Request;
-use twe_base::{FaultKind, Memory, Place};
+use twe_base::{Memory, Place};
 use twe_program::{BinOp, Expr, Prog};
 
 impl<'a> Machine<'a> {
@@ -71,7 +72,7 @@ impl<'a> Machine<'a> {
         let right = self.pop_operand();
         let left = self.pop_operand();
         match operate(op, left, right) {
-            None => Ok(fault(FaultKind::DivZero, place)),
+            None => Ok(fault(FaultCause::DivZero, place)),
             Some(value) => {
                 self.push_operand(value)?;
                 Ok(Request::Nothing)
@@ -85,7 +86,7 @@ impl<'a> Machine<'a> {
     {
         let index = self.pop_operand();
         match element_number(p, array, index) {
-            None => fault(FaultKind::Index, place),
+            None => fault(FaultCause::Index(index), place),
             Some(cell) => Request::Read(cell),
         }
     }
@@ -97,7 +98,7 @@ impl<'a> Machine<'a> {
         let column = self.pop_operand();
         let row = self.pop_operand();
         match grid_element_number(p, array, row, column) {
-            None => fault(FaultKind::Index, place),
+            None => fault(FaultCause::GridIndex { row, column }, place),
             Some(cell) => Request::Read(cell),
         }
     }
@@ -122,7 +123,7 @@ impl<'a> Machine<'a> {
         let value = self.pop_operand();
         let index = self.pop_operand();
         match element_number(p, array, index) {
-            None => fault(FaultKind::Index, place),
+            None => fault(FaultCause::Index(index), place),
             Some(cell) => Request::Write(cell, value),
         }
     }
@@ -135,7 +136,7 @@ impl<'a> Machine<'a> {
         let column = self.pop_operand();
         let row = self.pop_operand();
         match grid_element_number(p, array, row, column) {
-            None => fault(FaultKind::Index, place),
+            None => fault(FaultCause::GridIndex { row, column }, place),
             Some(cell) => Request::Write(cell, value),
         }
     }
@@ -147,7 +148,7 @@ impl<'a> Machine<'a> {
     {
         let value = self.pop_operand();
         if self.fuel == 0 {
-            return fault(FaultKind::Fuel, place);
+            return fault(FaultCause::Fuel, place);
         }
         self.fuel -= 1;
         Request::Print(value)

@@ -6,10 +6,11 @@ ghost use Rattle.seg_exec.specs.inner.strides.Assignments.{Does, MayDo, MayWrite
 
 use crate::cells::Cells;
 use crate::elements::{cell_number, element_number};
+use crate::fault::FaultCause;
 use crate::steps::variables::Variables;
 use crate::strides::plain::is_plain;
 use crate::strides::value::{Fault, value_of};
-use twe_base::{FaultKind, Place};
+use twe_base::Place;
 use twe_program::{Expr, Prog, Stmt, StmtKind};
 
 /// What became of a statement.
@@ -75,15 +76,21 @@ fn set<C: Cells>(
     }
 }
 
-/// Writes an element. It is a fault if there is no such element.
+/// Writes an element. It is a fault with the cause `missing` if there is no such element.
 #[inline(always)]
-fn write<C: Cells>(cells: &mut C, cell: Option<u32>, value: i32, place: Place) -> Carried
+fn write<C: Cells>(
+    cells: &mut C,
+    cell: Option<u32>,
+    missing: FaultCause,
+    value: i32,
+    place: Place,
+) -> Carried
     requires { MayWriteAt (ways_of C.known C.may_read C.may_write C.rule) cells.old cell }
-    ensures { WritesAt (ways_of C.known C.may_read C.may_write C.rule) cell value place cells.old result cells.new }
+    ensures { WritesAt (ways_of C.known C.may_read C.may_write C.rule) cell missing value place cells.old result cells.new }
 {
     match cell {
         None => Carried::Faulted(Fault {
-            kind: FaultKind::Index,
+            cause: missing,
             place,
         }),
         Some(cell) => {
@@ -120,7 +127,16 @@ fn set_element<C: Cells>(
         Err(fault) => Carried::Faulted(fault),
         Ok(index) => match value_of(value, p, vars.as_slice(), cells) {
             Err(fault) => Carried::Faulted(fault),
-            Ok(value) => write(cells, element_number(p, array, index), value, place),
+            Ok(value) => {
+                let missing = FaultCause::Index(index);
+                write(
+                    cells,
+                    element_number(p, array, index),
+                    missing,
+                    value,
+                    place,
+                )
+            }
         },
     }
 }

@@ -14,6 +14,7 @@ ghost use Rattle.seg_exec.specs.Access.{ways_of};
 use crate::active::ActiveCall;
 use crate::body::{start, statements};
 use crate::cells::Cells;
+use crate::fault::FaultCause;
 use crate::operation::Operation;
 use crate::steps::continuation::{Continuation, Gathering, Goal, OpenBlock};
 use crate::steps::machine::Machine;
@@ -23,7 +24,7 @@ use crate::strides::plain::is_plain;
 use crate::strides::serve::serve;
 use crate::strides::value::value_of;
 use std::alloc::Global;
-use twe_base::{FaultKind, Ints, MAX_ACTIVE_CALLS, Memory, Place};
+use twe_base::{Ints, MAX_ACTIVE_CALLS, Memory, Place};
 use twe_program::{Args, Decl, Expr, Prog};
 
 /// The argument of this number, if there is one and it calls no method.
@@ -38,13 +39,13 @@ fn plain_argument(args: &[Expr], at: usize) -> Option<&Expr>
 
 /// Ends the run with a fault, and drops the values of the arguments.
 #[inline(always)]
-fn refuse(machine: &mut Machine<'_>, count: usize, kind: FaultKind, place: Place) -> Onward
+fn refuse(machine: &mut Machine<'_>, count: usize, cause: FaultCause, place: Place) -> Onward
     requires { count ≤ length machine.old.vars.active }
     ensures { step_on (course result machine.new) (config_of machine.new)
-        ≡ faulted kind place (config_before count machine.old) }
+        ≡ faulted cause place (config_before count machine.old) }
 {
     machine.vars.truncate(count);
-    machine.ending = Some(Ending::Faulted { kind, place });
+    machine.ending = Some(Ending::Faulted { cause, place });
     Onward::End
 }
 
@@ -62,11 +63,11 @@ fn enter<'a>(
         ≡ entering (option_copied decl.entry) (drop count machine.old.vars.active) call (config_before count machine.old)) }
 {
     if machine.fuel == 0 {
-        return Ok(refuse(machine, count, FaultKind::Fuel, call.place));
+        return Ok(refuse(machine, count, FaultCause::Fuel, call.place));
     }
     machine.fuel -= 1;
     if machine.work.calls() >= MAX_ACTIVE_CALLS as usize {
-        return Ok(refuse(machine, count, FaultKind::Depth, call.place));
+        return Ok(refuse(machine, count, FaultCause::Depth, call.place));
     }
     machine.vars.enter(count);
     start(decl, &mut machine.vars)?;

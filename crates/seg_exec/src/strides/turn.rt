@@ -11,6 +11,7 @@ ghost use Rattle.seg_exec.specs.inner.strides.Strides.{MayGo, doing};
 
 use crate::arithmetic::is_true;
 use crate::cells::Cells;
+use crate::fault::FaultCause;
 use crate::steps::continuation::{Continuation, OpenBlock, ValueUse};
 use crate::steps::machine::Machine;
 use crate::steps::request::Ending;
@@ -19,7 +20,7 @@ use crate::strides::onward::Onward;
 use crate::strides::plain::is_plain;
 use crate::strides::value::value_of;
 use std::alloc::Global;
-use twe_base::{FaultKind, Ints, Memory, Place};
+use twe_base::{Ints, Memory, Place};
 use twe_program::{Block, Expr, Prog, Stmt};
 
 /// Begins a turn of a loop if the value of its condition is true. A turn takes a unit of fuel; it is a fault if none is left.
@@ -39,7 +40,7 @@ fn begin_turn<'a>(
     }
     if machine.fuel == 0 {
         machine.ending = Some(Ending::Faulted {
-            kind: FaultKind::Fuel,
+            cause: FaultCause::Fuel,
             place,
         });
         return Ok(Onward::End);

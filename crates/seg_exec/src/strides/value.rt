@@ -9,15 +9,16 @@ ghost use Rattle.seg_exec.specs.inner.strides.Strides.{EvaluatesTo, MayEvaluate,
 use crate::arithmetic::{decide, invert, is_true, negate, number_of, operate};
 use crate::cells::Cells;
 use crate::elements::{cell_number, element_number, grid_element_number};
+use crate::fault::FaultCause;
 use crate::steps::request::Ending;
-use twe_base::{FaultKind, Place};
+use twe_base::Place;
 use twe_program::{BinOp, Expr, ExprKind, Prog};
 
 /// A fault and its place in the text.
 #[derive(Clone, Copy, Debug)]
 pub(crate) struct Fault {
-    /// The kind of fault.
-    pub(crate) kind: FaultKind,
+    /// What led to it.
+    pub(crate) cause: FaultCause,
     /// Its place.
     pub(crate) place: Place,
 }
@@ -28,7 +29,7 @@ impl Fault {
         ensures { result ≡ fault_ending self }
     {
         Ending::Faulted {
-            kind: self.kind,
+            cause: self.cause,
             place: self.place,
         }
     }
@@ -45,15 +46,20 @@ fn var_in(vars: &[i32], var: u32) -> i32
     }
 }
 
-/// Reads an element. It is a fault if there is no such element.
+/// Reads an element. It is a fault with the cause `missing` if there is no such element.
 #[inline(always)]
-fn read<C: Cells>(cells: &mut C, cell: Option<u32>, place: Place) -> Result<i32, Fault>
+fn read<C: Cells>(
+    cells: &mut C,
+    cell: Option<u32>,
+    missing: FaultCause,
+    place: Place,
+) -> Result<i32, Fault>
     requires { MayReadAt (ways_of C.known C.may_read C.may_write C.rule) cells.old cell }
-    ensures { ReadsAt (ways_of C.known C.may_read C.may_write C.rule) cell place cells.old result cells.new }
+    ensures { ReadsAt (ways_of C.known C.may_read C.may_write C.rule) cell missing place cells.old result cells.new }
 {
     match cell {
         None => Err(Fault {
-            kind: FaultKind::Index,
+            cause: missing,
             place,
         }),
         Some(cell) => Ok(cells.get(cell)),
@@ -79,7 +85,7 @@ fn apply(op: BinOp, left: i32, right: i32, place: Place) -> Result<i32, Fault>
 {
     match operate(op, left, right) {
         None => Err(Fault {
-            kind: FaultKind::DivZero,
+            cause: FaultCause::DivZero,
             place,
         }),
         Some(value) => Ok(value),
@@ -154,7 +160,8 @@ fn value_by_parts<C: Cells>(
             place,
         } => {
             let index = value_of(index, p, vars, cells)?;
-            read(cells, element_number(p, *array, index), *place)
+            let missing = FaultCause::Index(index);
+            read(cells, element_number(p, *array, index), missing, *place)
         }
         ExprKind::At {
             array,
@@ -164,7 +171,8 @@ fn value_by_parts<C: Cells>(
         } => {
             let row = value_of(index, p, vars, cells)?;
             let column = value_of(column, p, vars, cells)?;
-            read(cells, grid_element_number(p, *array, row, column), *place)
+            let cell = grid_element_number(p, *array, row, column);
+            read(cells, cell, FaultCause::GridIndex { row, column }, *place)
         }
         ExprKind::Call { .. } => Ok(0),
         ExprKind::Neg(operand) => {

@@ -15,6 +15,8 @@ use Rattle.seg_exec.specs.declared.frame.Position.{Position}
 use Rattle.seg_exec.specs.Arithmetic.{is_true, operated, decided}
 use Rattle.seg_exec.specs.Cells.{element_number, grid_element_number}
 use Rattle.seg_exec.specs.Store.{Store, Given, gives, faults, Flow, goes, returns, fails, stops, then_give, then_do, then_go, unit_taken, unit_of}
+use Rattle.seg_exec.specs.declared.fault.FaultCause.{FaultCause}
+use Rattle.seg_exec.specs.declared.fault.FaultCause.TheVariants.{Index, GridIndex}
 use Rattle.seg_exec.specs.Meaning.{Below, element_read, element_written, value_or_fault, right_given, body_of, vars_at_start, given_back, entered, called, value_of, values_of, turned, chosen, stopped_at, done_by, done_all, done_arms, done_within}
 use Rattle.seg_exec.specs.Remaining.{after_first, last_of_first, block_of, block_at, turned_again, resumed}
 
@@ -69,13 +71,13 @@ module _ (p : Program) (count limit : ℕ) where
   set_kept : (s : Store) (cell : ℕ) (value : ℤ) → Kept s → length (slice_set s.cells cell value) ≡ count
   set_kept s cell value h = length-set s.cells cell value ∙ h.0
 
-  read_kept : (number : Option ℕ) (place : Place) (s : Store) → Kept s → GivenKept (element_read number place s)
-  read_kept None place s h = h
-  read_kept (Some cell) place s h = h
+  read_kept : (number : Option ℕ) (missing : FaultCause) (place : Place) (s : Store) → Kept s → GivenKept (element_read number missing place s)
+  read_kept None missing place s h = h
+  read_kept (Some cell) missing place s h = h
 
-  written_kept : (number : Option ℕ) (value : ℤ) (place : Place) (s : Store) → Kept s → FlowKept (element_written number value place s)
-  written_kept None value place s h = h
-  written_kept (Some cell) value place s h = (set_kept s cell value h, h.1)
+  written_kept : (number : Option ℕ) (missing : FaultCause) (value : ℤ) (place : Place) (s : Store) → Kept s → FlowKept (element_written number missing value place s)
+  written_kept None missing value place s h = h
+  written_kept (Some cell) missing value place s h = (set_kept s cell value h, h.1)
 
   fault_kept : (value : Option ℤ) (place : Place) (s : Store) → Kept s → GivenKept (value_or_fault value place s)
   fault_kept None place s h = h
@@ -112,10 +114,10 @@ module _ (p : Program) (count limit : ℕ) where
       value_kept (Variable var fixed) s h = h
       value_kept (CellValue cell place) s h = h
       value_kept (ArrayElement array index place) s h =
-          give_kept (value_of below p index s) _ (value_kept index s h) (λ i s1 h1. read_kept (element_number p array i) place s1 h1)
+          give_kept (value_of below p index s) _ (value_kept index s h) (λ i s1 h1. read_kept (element_number p array i) (Index i) place s1 h1)
       value_kept (GridElement array row column place) s h =
           give_kept (value_of below p row s) _ (value_kept row s h) (λ i s1 h1. give_kept (value_of below p column s1) _ (value_kept column s1 h1)
-          (λ j s2 h2. read_kept (grid_element_number p array i j) place s2 h2))
+          (λ j s2 h2. read_kept (grid_element_number p array i j) (GridIndex i j) place s2 h2))
       value_kept (CallValue method args place) s h =
           give_kept (values_of below p args s) _ (values_kept args s h) (λ vs s1 h1. called_kept method vs place s1 h1)
       value_kept (Negative operand) s h = give_kept (value_of below p operand s) _ (value_kept operand s h) (λ v s1 h1. h1)
@@ -145,10 +147,10 @@ module _ (p : Program) (count limit : ℕ) where
           do_kept (value_of below p value s) _ (value_kept value s h) (λ v s1 h1. (set_kept s1 _ v h1, h1.1))
       statement_kept (SetArray point array index value place) s h =
           do_kept (value_of below p index s) _ (value_kept index s h) (λ i s1 h1. do_kept (value_of below p value s1) _ (value_kept value s1 h1)
-          (λ v s2 h2. written_kept (element_number p array i) v place s2 h2))
+          (λ v s2 h2. written_kept (element_number p array i) (Index i) v place s2 h2))
       statement_kept (SetGrid point array row column value place) s h =
           do_kept (value_of below p row s) _ (value_kept row s h) (λ i s1 h1. do_kept (value_of below p column s1) _ (value_kept column s1 h1)
-          (λ j s2 h2. do_kept (value_of below p value s2) _ (value_kept value s2 h2) (λ v s3 h3. written_kept (grid_element_number p array i j) v place s3 h3)))
+          (λ j s2 h2. do_kept (value_of below p value s2) _ (value_kept value s2 h2) (λ v s3 h3. written_kept (grid_element_number p array i j) (GridIndex i j) v place s3 h3)))
       statement_kept (If point arms) s h = arms_kept arms 0 s h
       statement_kept (While point condition body place) s h =
           do_kept (value_of below p condition s) _ (value_kept condition s h) (λ v s1 h1. turned_kept (is_true v) place (done_all below p 0 0 body) (below (While point condition body place)) s1 h1

@@ -11,6 +11,8 @@ use Rattle.seg_exec.specs.declared.operation.Operation.TheVariants as operations
 use Rattle.seg_exec.specs.Arithmetic.{is_true}
 use Rattle.seg_exec.specs.Cells.{element_number, grid_element_number}
 use Rattle.seg_exec.specs.Store.{Store, Given, gives, faults, Flow, goes, returns, fails, stops, then_do, then_go, unit_taken}
+use Rattle.seg_exec.specs.declared.fault.FaultCause.{FaultCause}
+use Rattle.seg_exec.specs.declared.fault.FaultCause.TheVariants.{Index, GridIndex}
 use Rattle.seg_exec.specs.Meaning.{Below, element_written, value_of, values_of, called, turned, chosen, stopped_at, done_by, done_all, done_arms}
 use Rattle.seg_exec.specs.Remaining.{after_first, last_of_first, branch_of, block_of, block_at}
 use Rattle.twe_machine.specs.segment_laws.Left.{again, left_in}
@@ -71,9 +73,9 @@ chosen_leads : (from next : Statements) (left : List Position → Statements) (y
 chosen_leads from next left true first second a b = a
 chosen_leads from next left false first second a b = b
 
-written_leads : (from next : Statements) (left : List Position → Statements) (number : Option ℕ) (value : ℤ) (place : Place) (s : Store) → Leads from next → FlowLeads from next left (element_written number value place s)
-written_leads from next left None value place s h = tt
-written_leads from next left (Some cell) value place s h = h
+written_leads : (from next : Statements) (left : List Position → Statements) (number : Option ℕ) (missing : FaultCause) (value : ℤ) (place : Place) (s : Store) → Leads from next → FlowLeads from next left (element_written number missing value place s)
+written_leads from next left None missing value place s h = tt
+written_leads from next left (Some cell) missing value place s h = h
 
 -- with what is known of the value
 do_given : {A : Type 0} (Q : A → Type 0) (from next : Statements) (left : List Position → Statements) (g : Given A) (then : A → Store → Flow)
@@ -155,13 +157,13 @@ module _ (p : Program) (below : Below) (leads : BelowLeads below) where
         let stmt = SetArray point array index value place in
         let left = left_after (Some stmt) others in
         do_leads (statement stmt others) others left (value_of below p index s) _ (λ i s1. do_leads (statement stmt others) others left (value_of below p value s1) _
-        (λ v s2. written_leads (statement stmt others) others left (element_number p array i) v place s2 (leads_through stmt others (λ o. o) (λ path. (refl, refl)))))
+        (λ v s2. written_leads (statement stmt others) others left (element_number p array i) (Index i) v place s2 (leads_through stmt others (λ o. o) (λ path. (refl, refl)))))
     statement_leads (SetGrid point array row column value place) others s =
         let stmt = SetGrid point array row column value place in
         let left = left_after (Some stmt) others in
         do_leads (statement stmt others) others left (value_of below p row s) _ (λ i s1. do_leads (statement stmt others) others left (value_of below p column s1) _
         (λ j s2. do_leads (statement stmt others) others left (value_of below p value s2) _
-        (λ v s3. written_leads (statement stmt others) others left (grid_element_number p array i j) v place s3 (leads_through stmt others (λ o. o) (λ path. (refl, refl))))))
+        (λ v s3. written_leads (statement stmt others) others left (grid_element_number p array i j) (GridIndex i j) v place s3 (leads_through stmt others (λ o. o) (λ path. (refl, refl))))))
     statement_leads (If point arms) others s =
         arms_leads point arms others 0 arms (λ n. let e : 0 + n ≡ n = omega arith in ap (λ (k : ℕ). branch_of k arms) e) (λ taken is. is) s
     statement_leads (While point condition body place) others s =

@@ -2,8 +2,6 @@
 use Rattle.std.specs.Prelude.{ℕ, ◌+◌, ◌-◌, ℤ, pos, Bool, true, false, List, [], ◌∷◌, ◌++◌, drop, length, Option, None, Some, nat_eq, nat_le, slice_get, slice_set}
 use Rattle.twe_base.specs.declared.place.Place.{Place}
 use Rattle.twe_base.specs.Language.{max_active_calls}
-use Rattle.twe_base.specs.declared.fault.FaultKind.{FaultKind}
-use Rattle.twe_base.specs.declared.fault.FaultKind.TheVariants.{DivZero, Index, Fuel, Depth}
 use Rattle.twe_ast.specs.declared.expr.BinOp.{BinOp}
 use Rattle.twe_program.specs.declared.program.Decl.{Decl}
 use Rattle.twe_program.specs.Program.{Program}
@@ -11,6 +9,8 @@ use Rattle.twe_program.specs.Expression.{Expression, Literal, Truth, Variable, C
 use Rattle.twe_program.specs.Expression as args
 use Rattle.twe_program.specs.Statement.{Statement, Block, Let, Set, SetCell, SetArray, SetGrid, If, While, Return, Print, Call, Make, Wait, Statements, no_more, statement, Arms, arm, otherwise, no_else}
 use Rattle.seg_exec.specs.declared.active.ActiveCall.{ActiveCall}
+use Rattle.seg_exec.specs.declared.fault.FaultCause.{FaultCause}
+use Rattle.seg_exec.specs.declared.fault.FaultCause.TheVariants.{DivZero, Index, GridIndex, Fuel, Depth}
 use Rattle.seg_exec.specs.declared.frame.Position.{Position}
 use Rattle.seg_exec.specs.declared.operation.Operation.{Operation}
 use Rattle.seg_exec.specs.declared.operation.Operation.TheVariants as operations
@@ -35,8 +35,8 @@ abbrev pub on : Config → Step
 on c = (requests.Nothing, c)
 
 -- the step that ends the run with a fault
-abbrev pub faulted : FaultKind → Place → Config → Step
-faulted kind place c = (requests.End (endings.Faulted kind place), c)
+abbrev pub faulted : FaultCause → Place → Config → Step
+faulted cause place c = (requests.End (endings.Faulted cause place), c)
 
 -- a unit of fuel is taken and the step is that of `next`; a fault if none is left, as the first argument says
 abbrev pub unit_or : Bool → Place → Config → (Config → Step) → Step
@@ -160,15 +160,15 @@ abbrev pub applied : Option ℤ → Place → Config → Step
 applied None place c = faulted DivZero place c
 applied (Some value) place c = on (with_operand value c)
 
--- the read of the cell of an element is requested; a fault if there is no such element
-abbrev pub read_at : Option ℕ → Place → Config → Step
-read_at None place c = faulted Index place c
-read_at (Some cell) place c = (requests.Read cell, c)
+-- the read of the cell of an element is requested; a fault with this cause if there is no such element
+abbrev pub read_at : Option ℕ → FaultCause → Place → Config → Step
+read_at None missing place c = faulted missing place c
+read_at (Some cell) missing place c = (requests.Read cell, c)
 
--- the write of the cell of an element is requested; a fault if there is no such element
-abbrev pub written_at : Option ℕ → ℤ → Place → Config → Step
-written_at None value place c = faulted Index place c
-written_at (Some cell) value place c = (requests.Write cell value, c)
+-- the write of the cell of an element is requested; a fault with this cause if there is no such element
+abbrev pub written_at : Option ℕ → FaultCause → ℤ → Place → Config → Step
+written_at None missing value place c = faulted missing place c
+written_at (Some cell) missing value place c = (requests.Write cell value, c)
 
 -- the same by the left operand on the stack
 abbrev pub righting : BinOp → Expression → Place → Config → Step
@@ -180,12 +180,14 @@ applying op place c = applied (operated op (top (below c.operands)) (top c.opera
 
 -- the element of an array at the index on the stack is read
 abbrev pub reading_element : Program → ℕ → Place → Config → Step
-reading_element p array place c = read_at (element_number p array (top c.operands)) place (without_operand c)
+reading_element p array place c =
+    read_at (element_number p array (top c.operands)) (Index (top c.operands)) place (without_operand c)
 
 -- the element of a grid at the row and the column on the stack is read
 abbrev pub reading_grid_element : Program → ℕ → Place → Config → Step
 reading_grid_element p array place c =
-    read_at (grid_element_number p array (top (below c.operands)) (top c.operands)) place (without_operand (without_operand c))
+    read_at (grid_element_number p array (top (below c.operands)) (top c.operands))
+    (GridIndex (top (below c.operands)) (top c.operands)) place (without_operand (without_operand c))
 
 -- a variable is given the latest value
 abbrev pub giving_var : ℕ → Config → Step
@@ -194,12 +196,14 @@ giving_var var c = on (record (without_operand c) { vars = slice_set c.vars var 
 -- the element of an array at the index on the stack is given the latest value
 abbrev pub giving_element : Program → ℕ → Place → Config → Step
 giving_element p array place c =
-    written_at (element_number p array (top (below c.operands))) (top c.operands) place (without_operand (without_operand c))
+    written_at (element_number p array (top (below c.operands))) (Index (top (below c.operands))) (top c.operands) place
+    (without_operand (without_operand c))
 
 -- the element of a grid at the row and the column on the stack is given the latest value
 abbrev pub giving_grid_element : Program → ℕ → Place → Config → Step
 giving_grid_element p array place c =
-    written_at (grid_element_number p array (top (below (below c.operands))) (top (below c.operands))) (top c.operands) place
+    written_at (grid_element_number p array (top (below (below c.operands))) (top (below c.operands)))
+    (GridIndex (top (below (below c.operands))) (top (below c.operands))) (top c.operands) place
     (without_operand (without_operand (without_operand c)))
 
 -- the print of the latest value is requested, which takes a unit of fuel

@@ -1,11 +1,11 @@
 -- Assignments that are carried out at once, whatever else is to be done.
 use Rattle.std.specs.Prelude.{◌≡◌, ℕ, ℤ, List, ◌∷◌, Option, None, Some}
 use Rattle.twe_base.specs.declared.place.Place.{Place}
-use Rattle.twe_base.specs.declared.fault.FaultKind.TheVariants.{Index}
 use Rattle.twe_program.specs.Program.{Program}
 use Rattle.twe_program.specs.Expression.{Expression}
 use Rattle.twe_program.specs.Statement.{Statement}
 use Rattle.seg_exec.specs.declared.active.ActiveCall.{ActiveCall}
+use Rattle.seg_exec.specs.declared.fault.FaultCause.{FaultCause}
 use Rattle.seg_exec.specs.declared.strides.assign.Carried.{Carried}
 use Rattle.seg_exec.specs.declared.strides.assign.Carried.TheVariants.{Done, Faulted, Left}
 use Rattle.seg_exec.specs.declared.strides.assign.Target.{Target}
@@ -57,7 +57,7 @@ Does p ways tasks vars old Left vars' new = (vars' ≡ vars) × (new ≡ old)
 abbrev pub MayWriteAt : {C : Type 0} → Ways C → C → Option ℕ → Type 0
 MayWriteAt ways cells cell = (k : ℕ) → cell ≡ Some k → ways.may_write cells k
 
--- the write of an element; a fault if there is no such element
-abbrev pub WritesAt : {C : Type 0} → Ways C → Option ℕ → ℤ → Place → C → Carried → C → Type 0
-WritesAt ways None value place old result new = (result ≡ Faulted (record { kind = Index; place = place })) × (new ≡ old)
-WritesAt ways (Some cell) value place old result new = (result ≡ Done) × HasWritten ways old cell value new
+-- the write of an element; a fault with this cause if there is no such element
+abbrev pub WritesAt : {C : Type 0} → Ways C → Option ℕ → FaultCause → ℤ → Place → C → Carried → C → Type 0
+WritesAt ways None missing value place old result new = (result ≡ Faulted (record { cause = missing; place = place })) × (new ≡ old)
+WritesAt ways (Some cell) missing value place old result new = (result ≡ Done) × HasWritten ways old cell value new

@@ -1,10 +1,11 @@
 -- Several steps of the evaluator at once, over any implementation of cells.
 use Rattle.std.specs.Prelude.{◌≡◌, ◌<◌, ◌≤◌, ℕ, ℤ, List, ◌∷◌, Option, None, Some, Result, Ok, Err}
 use Rattle.twe_base.specs.declared.place.Place.{Place}
-use Rattle.twe_base.specs.declared.fault.FaultKind.TheVariants.{DivZero, Index}
 use Rattle.twe_program.specs.Program.{Program}
 use Rattle.twe_program.specs.Expression.{Expression}
 use Rattle.seg_exec.specs.declared.active.ActiveCall.{ActiveCall}
+use Rattle.seg_exec.specs.declared.fault.FaultCause.{FaultCause}
+use Rattle.seg_exec.specs.declared.fault.FaultCause.TheVariants.{DivZero}
 use Rattle.seg_exec.specs.declared.steps.machine.Machine.{Machine}
 use Rattle.seg_exec.specs.declared.steps.request.Ending.{Ending}
 use Rattle.seg_exec.specs.declared.steps.request.Ending.TheVariants.{Faulted}
@@ -70,7 +71,7 @@ stand work operands vars fuel calls cells prints = record {
 
 -- the end with a fault
 abbrev pub fault_ending : Fault → Ending
-fault_ending fault = Faulted fault.kind fault.place
+fault_ending fault = Faulted fault.cause fault.place
 
 -- a value comes onto the operand stack, or a fault is met
 abbrev pub Gives : {C : Type 0} → Program → Ways C → Standing C
@@ -97,14 +98,14 @@ pub record MayEvaluate {C : Type 0} (p : Program) (ways : Ways C) (e : Expressio
 
 -- the value of an operator that was applied; a fault if it divides by zero
 abbrev pub quotient_or : Option ℤ → Place → Result ℤ Fault
-quotient_or None place = Err (record { kind = DivZero; place = place })
+quotient_or None place = Err (record { cause = DivZero; place = place })
 quotient_or (Some value) place = Ok value
 
 -- the implementation allows the read of an element, if there is such an element
 abbrev pub MayReadAt : {C : Type 0} → Ways C → C → Option ℕ → Type 0
 MayReadAt ways cells cell = (k : ℕ) → cell ≡ Some k → ways.may_read cells k
 
--- the read of an element; a fault if there is no such element
-abbrev pub ReadsAt : {C : Type 0} → Ways C → Option ℕ → Place → C → Result ℤ Fault → C → Type 0
-ReadsAt ways None place old result new = (result ≡ Err (record { kind = Index; place = place })) × (new ≡ old)
-ReadsAt ways (Some cell) place old result new = (value : ℤ) × (result ≡ Ok value) × HasRead ways old cell value new
+-- the read of an element; a fault with this cause if there is no such element
+abbrev pub ReadsAt : {C : Type 0} → Ways C → Option ℕ → FaultCause → Place → C → Result ℤ Fault → C → Type 0
+ReadsAt ways None missing place old result new = (result ≡ Err (record { cause = missing; place = place })) × (new ≡ old)
+ReadsAt ways (Some cell) missing place old result new = (value : ℤ) × (result ≡ Ok value) × HasRead ways old cell value new

@@ -8,6 +8,7 @@ use Rattle.seg_exec.specs.Arithmetic.{decided, is_true, negation, negative, numb
 use Rattle.seg_exec.specs.Cells.{element_number, grid_element_number}
 use Rattle.seg_exec.specs.inner.strides.Leaves.{leaf_value, pair_value}
 use Rattle.seg_exec.specs.inner.strides.Plainly.{is_plain}
+use Rattle.seg_exec.specs.declared.fault.FaultCause.TheVariants.{Index, GridIndex}
 use Rattle.seg_exec.specs.inner.strides.Strides.{MayReadAt, ReadsAt, quotient_or}
 use Rattle.seg_exec.proofs.strides.Evaluating.{both_first, both_second, cell_may, cell_read, column_fault, column_may, element_fault, element_may, element_may_read, element_read, evaluates_as, grid_may_read, grid_read, leaf, left_decides, left_fault, left_may, literal, may_as, negation_fault, negation_may, negation_value, negative_fault, negative_may, negative_value, operator_value, pair, passed_on, plain_as, right_fault, right_may, row_fault, row_may, truth, variable}
 use Rattle.seg_exec.proofs.strides.value.+value.Goals as goal
@@ -60,7 +61,7 @@ value_by_parts-read-requires g t c =
 
 pub value_by_parts-returns-in_ok-index-in-At-default-default-None-default : goal.value_by_parts-returns-in_ok-index-in-At-default-default-None-default
 value_by_parts-returns-in_ok-index-in-At-default-default-None-default g t c =
-    evaluates_as c.args.p.now (ways_of g.C.Cells.known g.C.Cells.may_read g.C.Cells.may_write g.C.Cells.rule) c.args.vars.now c.args.expr.now (ArrayElement c.in-At-default-default-None-default.array c.in-At-default-default-None-default.index.value c.in-At-default-default-None-default.place) c.args.cells.now c.read.new.cells c.read.result c.read.result (let shape : c.args.expr.now ≡ (ArrayElement c.in-At-default-default-None-default.array c.in-At-default-default-None-default.index.value c.in-At-default-default-None-default.place) = search rules in shape) refl (element_read c.args.p.now (ways_of g.C.Cells.known g.C.Cells.may_read g.C.Cells.may_write g.C.Cells.rule) c.args.vars.now c.in-At-default-default-None-default.array c.in-At-default-default-None-default.index.value c.in-At-default-default-None-default.place c.args.cells.now c.value_of.new.cells c.read.new.cells c.in_ok-index-in-At-default-default-None-default.index c.read.result (evaluates_as c.args.p.now (ways_of g.C.Cells.known g.C.Cells.may_read g.C.Cells.may_write g.C.Cells.rule) c.args.vars.now c.in-At-default-default-None-default.index.value c.deref.result.now c.args.cells.now c.value_of.new.cells (Ok c.in_ok-index-in-At-default-default-None-default.index) (Ok c.in_ok-index-in-At-default-default-None-default.index) (sym c.deref.ensures) refl c.in_ok-index-in-At-default-default-None-default.ensures) (subst (λ (cell : Option ℕ). ReadsAt (ways_of g.C.Cells.known g.C.Cells.may_read g.C.Cells.may_write g.C.Cells.rule) cell c.in-At-default-default-None-default.place c.value_of.new.cells c.read.result c.read.new.cells) (c.element_number.ensures ∙ ap (element_number c.args.p.now c.in-At-default-default-None-default.array) (let fits : SFits w32 c.in_ok-index-in-At-default-default-None-default.index = search rules in to_z-of_z w32 c.in_ok-index-in-At-default-default-None-default.index fits)) c.read.ensures))
+    evaluates_as c.args.p.now (ways_of g.C.Cells.known g.C.Cells.may_read g.C.Cells.may_write g.C.Cells.rule) c.args.vars.now c.args.expr.now (ArrayElement c.in-At-default-default-None-default.array c.in-At-default-default-None-default.index.value c.in-At-default-default-None-default.place) c.args.cells.now c.read.new.cells c.read.result c.read.result (let shape : c.args.expr.now ≡ (ArrayElement c.in-At-default-default-None-default.array c.in-At-default-default-None-default.index.value c.in-At-default-default-None-default.place) = search rules in shape) refl (element_read c.args.p.now (ways_of g.C.Cells.known g.C.Cells.may_read g.C.Cells.may_write g.C.Cells.rule) c.args.vars.now c.in-At-default-default-None-default.array c.in-At-default-default-None-default.index.value c.in-At-default-default-None-default.place c.args.cells.now c.value_of.new.cells c.read.new.cells c.in_ok-index-in-At-default-default-None-default.index c.read.result (evaluates_as c.args.p.now (ways_of g.C.Cells.known g.C.Cells.may_read g.C.Cells.may_write g.C.Cells.rule) c.args.vars.now c.in-At-default-default-None-default.index.value c.deref.result.now c.args.cells.now c.value_of.new.cells (Ok c.in_ok-index-in-At-default-default-None-default.index) (Ok c.in_ok-index-in-At-default-default-None-default.index) (sym c.deref.ensures) refl c.in_ok-index-in-At-default-default-None-default.ensures) (subst (λ (i : ℤ). ReadsAt (ways_of g.C.Cells.known g.C.Cells.may_read g.C.Cells.may_write g.C.Cells.rule) (element_number c.args.p.now c.in-At-default-default-None-default.array i) (Index i) c.in-At-default-default-None-default.place c.value_of.new.cells c.read.result c.read.new.cells) (let fits : SFits w32 c.in_ok-index-in-At-default-default-None-default.index = search rules in to_z-of_z w32 c.in_ok-index-in-At-default-default-None-default.index fits) (subst (λ (cell : Option ℕ). ReadsAt (ways_of g.C.Cells.known g.C.Cells.may_read g.C.Cells.may_write g.C.Cells.rule) cell (Index (to_z w32 (of_z w32 c.in_ok-index-in-At-default-default-None-default.index))) c.in-At-default-default-None-default.place c.value_of.new.cells c.read.result c.read.new.cells) c.element_number.ensures c.read.ensures)))
 
 pub value_by_parts-value_of-requires-in-Neg : goal.value_by_parts-value_of-requires-in-Neg
 value_by_parts-value_of-requires-in-Neg g t c κs within =
@@ -128,8 +129,8 @@ value_by_parts-returns-in_err-column-in-At-default-default-Some-default g t c =
 
 pub value_by_parts-read-requires-in-At-default-default-Some-default : goal.value_by_parts-read-requires-in-At-default-default-Some-default
 value_by_parts-read-requires-in-At-default-default-Some-default g t c =
-    subst (λ (cell : Option ℕ). MayReadAt (ways_of g.C.Cells.known g.C.Cells.may_read g.C.Cells.may_write g.C.Cells.rule) c.value_of-in-At-default-default-Some-default-2.new.cells cell) (sym (c.grid_element_number.ensures ∙ ap (λ (i : ℤ). grid_element_number c.args.p.now c.in-At-default-default-Some-default.array i (to_z w32 (of_z w32 c.in_ok-column-in-At-default-default-Some-default.column))) (let fits : SFits w32 c.in_ok-row-in-At-default-default-Some-default.row = search rules in to_z-of_z w32 c.in_ok-row-in-At-default-default-Some-default.row fits) ∙ ap (λ (j : ℤ). grid_element_number c.args.p.now c.in-At-default-default-Some-default.array c.in_ok-row-in-At-default-default-Some-default.row j) (let fits : SFits w32 c.in_ok-column-in-At-default-default-Some-default.column = search rules in to_z-of_z w32 c.in_ok-column-in-At-default-default-Some-default.column fits))) (grid_may_read c.args.p.now (ways_of g.C.Cells.known g.C.Cells.may_read g.C.Cells.may_write g.C.Cells.rule) c.args.vars.now c.in-At-default-default-Some-default.array c.in-At-default-default-Some-default.index.value c.in-At-default-default-Some-default.column.value c.in-At-default-default-Some-default.place c.args.cells.now c.value_of-in-At-default-default-Some-default.new.cells c.value_of-in-At-default-default-Some-default-2.new.cells c.in_ok-row-in-At-default-default-Some-default.row c.in_ok-column-in-At-default-default-Some-default.column (may_as c.args.p.now (ways_of g.C.Cells.known g.C.Cells.may_read g.C.Cells.may_write g.C.Cells.rule) c.args.vars.now (GridElement c.in-At-default-default-Some-default.array c.in-At-default-default-Some-default.index.value c.in-At-default-default-Some-default.column.value c.in-At-default-default-Some-default.place) c.args.expr.now c.args.cells.now (sym (let shape : c.args.expr.now ≡ (GridElement c.in-At-default-default-Some-default.array c.in-At-default-default-Some-default.index.value c.in-At-default-default-Some-default.column.value c.in-At-default-default-Some-default.place) = search rules in shape)) c.requires.may) (evaluates_as c.args.p.now (ways_of g.C.Cells.known g.C.Cells.may_read g.C.Cells.may_write g.C.Cells.rule) c.args.vars.now c.in-At-default-default-Some-default.index.value c.deref-in-At-default-default-Some-default.result.now c.args.cells.now c.value_of-in-At-default-default-Some-default.new.cells (Ok c.in_ok-row-in-At-default-default-Some-default.row) (Ok c.in_ok-row-in-At-default-default-Some-default.row) (sym c.deref-in-At-default-default-Some-default.ensures) refl c.in_ok-row-in-At-default-default-Some-default.ensures) (evaluates_as c.args.p.now (ways_of g.C.Cells.known g.C.Cells.may_read g.C.Cells.may_write g.C.Cells.rule) c.args.vars.now c.in-At-default-default-Some-default.column.value c.deref-in-At-default-default-Some-default-2.result.now c.value_of-in-At-default-default-Some-default.new.cells c.value_of-in-At-default-default-Some-default-2.new.cells (Ok c.in_ok-column-in-At-default-default-Some-default.column) (Ok c.in_ok-column-in-At-default-default-Some-default.column) (sym (let e : c.deref-in-At-default-default-Some-default-2.result.now ≡ c.in-At-default-default-Some-default.column.value = search rules in e)) refl c.in_ok-column-in-At-default-default-Some-default.ensures))
+    subst (λ (cell : Option ℕ). MayReadAt (ways_of g.C.Cells.known g.C.Cells.may_read g.C.Cells.may_write g.C.Cells.rule) c.value_of-in-At-default-default-Some-default-2.new.cells cell) (sym (c.grid_element_number-cell.ensures ∙ ap (λ (i : ℤ). grid_element_number c.args.p.now c.in-At-default-default-Some-default.array i (to_z w32 (of_z w32 c.in_ok-column-in-At-default-default-Some-default.column))) (let fits : SFits w32 c.in_ok-row-in-At-default-default-Some-default.row = search rules in to_z-of_z w32 c.in_ok-row-in-At-default-default-Some-default.row fits) ∙ ap (λ (j : ℤ). grid_element_number c.args.p.now c.in-At-default-default-Some-default.array c.in_ok-row-in-At-default-default-Some-default.row j) (let fits : SFits w32 c.in_ok-column-in-At-default-default-Some-default.column = search rules in to_z-of_z w32 c.in_ok-column-in-At-default-default-Some-default.column fits))) (grid_may_read c.args.p.now (ways_of g.C.Cells.known g.C.Cells.may_read g.C.Cells.may_write g.C.Cells.rule) c.args.vars.now c.in-At-default-default-Some-default.array c.in-At-default-default-Some-default.index.value c.in-At-default-default-Some-default.column.value c.in-At-default-default-Some-default.place c.args.cells.now c.value_of-in-At-default-default-Some-default.new.cells c.value_of-in-At-default-default-Some-default-2.new.cells c.in_ok-row-in-At-default-default-Some-default.row c.in_ok-column-in-At-default-default-Some-default.column (may_as c.args.p.now (ways_of g.C.Cells.known g.C.Cells.may_read g.C.Cells.may_write g.C.Cells.rule) c.args.vars.now (GridElement c.in-At-default-default-Some-default.array c.in-At-default-default-Some-default.index.value c.in-At-default-default-Some-default.column.value c.in-At-default-default-Some-default.place) c.args.expr.now c.args.cells.now (sym (let shape : c.args.expr.now ≡ (GridElement c.in-At-default-default-Some-default.array c.in-At-default-default-Some-default.index.value c.in-At-default-default-Some-default.column.value c.in-At-default-default-Some-default.place) = search rules in shape)) c.requires.may) (evaluates_as c.args.p.now (ways_of g.C.Cells.known g.C.Cells.may_read g.C.Cells.may_write g.C.Cells.rule) c.args.vars.now c.in-At-default-default-Some-default.index.value c.deref-in-At-default-default-Some-default.result.now c.args.cells.now c.value_of-in-At-default-default-Some-default.new.cells (Ok c.in_ok-row-in-At-default-default-Some-default.row) (Ok c.in_ok-row-in-At-default-default-Some-default.row) (sym c.deref-in-At-default-default-Some-default.ensures) refl c.in_ok-row-in-At-default-default-Some-default.ensures) (evaluates_as c.args.p.now (ways_of g.C.Cells.known g.C.Cells.may_read g.C.Cells.may_write g.C.Cells.rule) c.args.vars.now c.in-At-default-default-Some-default.column.value c.deref-in-At-default-default-Some-default-2.result.now c.value_of-in-At-default-default-Some-default.new.cells c.value_of-in-At-default-default-Some-default-2.new.cells (Ok c.in_ok-column-in-At-default-default-Some-default.column) (Ok c.in_ok-column-in-At-default-default-Some-default.column) (sym (let e : c.deref-in-At-default-default-Some-default-2.result.now ≡ c.in-At-default-default-Some-default.column.value = search rules in e)) refl c.in_ok-column-in-At-default-default-Some-default.ensures))
 
 pub value_by_parts-returns-in_ok-column-in-At-default-default-Some-default : goal.value_by_parts-returns-in_ok-column-in-At-default-default-Some-default
 value_by_parts-returns-in_ok-column-in-At-default-default-Some-default g t c =
-    evaluates_as c.args.p.now (ways_of g.C.Cells.known g.C.Cells.may_read g.C.Cells.may_write g.C.Cells.rule) c.args.vars.now c.args.expr.now (GridElement c.in-At-default-default-Some-default.array c.in-At-default-default-Some-default.index.value c.in-At-default-default-Some-default.column.value c.in-At-default-default-Some-default.place) c.args.cells.now c.read-in-At-default-default-Some-default.new.cells c.read-in-At-default-default-Some-default.result c.read-in-At-default-default-Some-default.result (let shape : c.args.expr.now ≡ (GridElement c.in-At-default-default-Some-default.array c.in-At-default-default-Some-default.index.value c.in-At-default-default-Some-default.column.value c.in-At-default-default-Some-default.place) = search rules in shape) refl (grid_read c.args.p.now (ways_of g.C.Cells.known g.C.Cells.may_read g.C.Cells.may_write g.C.Cells.rule) c.args.vars.now c.in-At-default-default-Some-default.array c.in-At-default-default-Some-default.index.value c.in-At-default-default-Some-default.column.value c.in-At-default-default-Some-default.place c.args.cells.now c.value_of-in-At-default-default-Some-default.new.cells c.value_of-in-At-default-default-Some-default-2.new.cells c.read-in-At-default-default-Some-default.new.cells c.in_ok-row-in-At-default-default-Some-default.row c.in_ok-column-in-At-default-default-Some-default.column c.read-in-At-default-default-Some-default.result (evaluates_as c.args.p.now (ways_of g.C.Cells.known g.C.Cells.may_read g.C.Cells.may_write g.C.Cells.rule) c.args.vars.now c.in-At-default-default-Some-default.index.value c.deref-in-At-default-default-Some-default.result.now c.args.cells.now c.value_of-in-At-default-default-Some-default.new.cells (Ok c.in_ok-row-in-At-default-default-Some-default.row) (Ok c.in_ok-row-in-At-default-default-Some-default.row) (sym c.deref-in-At-default-default-Some-default.ensures) refl c.in_ok-row-in-At-default-default-Some-default.ensures) (evaluates_as c.args.p.now (ways_of g.C.Cells.known g.C.Cells.may_read g.C.Cells.may_write g.C.Cells.rule) c.args.vars.now c.in-At-default-default-Some-default.column.value c.deref-in-At-default-default-Some-default-2.result.now c.value_of-in-At-default-default-Some-default.new.cells c.value_of-in-At-default-default-Some-default-2.new.cells (Ok c.in_ok-column-in-At-default-default-Some-default.column) (Ok c.in_ok-column-in-At-default-default-Some-default.column) (sym (let e : c.deref-in-At-default-default-Some-default-2.result.now ≡ c.in-At-default-default-Some-default.column.value = search rules in e)) refl c.in_ok-column-in-At-default-default-Some-default.ensures) (subst (λ (cell : Option ℕ). ReadsAt (ways_of g.C.Cells.known g.C.Cells.may_read g.C.Cells.may_write g.C.Cells.rule) cell c.in-At-default-default-Some-default.place c.value_of-in-At-default-default-Some-default-2.new.cells c.read-in-At-default-default-Some-default.result c.read-in-At-default-default-Some-default.new.cells) (c.grid_element_number.ensures ∙ ap (λ (i : ℤ). grid_element_number c.args.p.now c.in-At-default-default-Some-default.array i (to_z w32 (of_z w32 c.in_ok-column-in-At-default-default-Some-default.column))) (let fits : SFits w32 c.in_ok-row-in-At-default-default-Some-default.row = search rules in to_z-of_z w32 c.in_ok-row-in-At-default-default-Some-default.row fits) ∙ ap (λ (j : ℤ). grid_element_number c.args.p.now c.in-At-default-default-Some-default.array c.in_ok-row-in-At-default-default-Some-default.row j) (let fits : SFits w32 c.in_ok-column-in-At-default-default-Some-default.column = search rules in to_z-of_z w32 c.in_ok-column-in-At-default-default-Some-default.column fits)) c.read-in-At-default-default-Some-default.ensures))
+    evaluates_as c.args.p.now (ways_of g.C.Cells.known g.C.Cells.may_read g.C.Cells.may_write g.C.Cells.rule) c.args.vars.now c.args.expr.now (GridElement c.in-At-default-default-Some-default.array c.in-At-default-default-Some-default.index.value c.in-At-default-default-Some-default.column.value c.in-At-default-default-Some-default.place) c.args.cells.now c.read-in-At-default-default-Some-default.new.cells c.read-in-At-default-default-Some-default.result c.read-in-At-default-default-Some-default.result (let shape : c.args.expr.now ≡ (GridElement c.in-At-default-default-Some-default.array c.in-At-default-default-Some-default.index.value c.in-At-default-default-Some-default.column.value c.in-At-default-default-Some-default.place) = search rules in shape) refl (grid_read c.args.p.now (ways_of g.C.Cells.known g.C.Cells.may_read g.C.Cells.may_write g.C.Cells.rule) c.args.vars.now c.in-At-default-default-Some-default.array c.in-At-default-default-Some-default.index.value c.in-At-default-default-Some-default.column.value c.in-At-default-default-Some-default.place c.args.cells.now c.value_of-in-At-default-default-Some-default.new.cells c.value_of-in-At-default-default-Some-default-2.new.cells c.read-in-At-default-default-Some-default.new.cells c.in_ok-row-in-At-default-default-Some-default.row c.in_ok-column-in-At-default-default-Some-default.column c.read-in-At-default-default-Some-default.result (evaluates_as c.args.p.now (ways_of g.C.Cells.known g.C.Cells.may_read g.C.Cells.may_write g.C.Cells.rule) c.args.vars.now c.in-At-default-default-Some-default.index.value c.deref-in-At-default-default-Some-default.result.now c.args.cells.now c.value_of-in-At-default-default-Some-default.new.cells (Ok c.in_ok-row-in-At-default-default-Some-default.row) (Ok c.in_ok-row-in-At-default-default-Some-default.row) (sym c.deref-in-At-default-default-Some-default.ensures) refl c.in_ok-row-in-At-default-default-Some-default.ensures) (evaluates_as c.args.p.now (ways_of g.C.Cells.known g.C.Cells.may_read g.C.Cells.may_write g.C.Cells.rule) c.args.vars.now c.in-At-default-default-Some-default.column.value c.deref-in-At-default-default-Some-default-2.result.now c.value_of-in-At-default-default-Some-default.new.cells c.value_of-in-At-default-default-Some-default-2.new.cells (Ok c.in_ok-column-in-At-default-default-Some-default.column) (Ok c.in_ok-column-in-At-default-default-Some-default.column) (sym (let e : c.deref-in-At-default-default-Some-default-2.result.now ≡ c.in-At-default-default-Some-default.column.value = search rules in e)) refl c.in_ok-column-in-At-default-default-Some-default.ensures) (subst (λ (i : ℤ). ReadsAt (ways_of g.C.Cells.known g.C.Cells.may_read g.C.Cells.may_write g.C.Cells.rule) (grid_element_number c.args.p.now c.in-At-default-default-Some-default.array i c.in_ok-column-in-At-default-default-Some-default.column) (GridIndex i c.in_ok-column-in-At-default-default-Some-default.column) c.in-At-default-default-Some-default.place c.value_of-in-At-default-default-Some-default-2.new.cells c.read-in-At-default-default-Some-default.result c.read-in-At-default-default-Some-default.new.cells) (let fits : SFits w32 c.in_ok-row-in-At-default-default-Some-default.row = search rules in to_z-of_z w32 c.in_ok-row-in-At-default-default-Some-default.row fits) (subst (λ (j : ℤ). ReadsAt (ways_of g.C.Cells.known g.C.Cells.may_read g.C.Cells.may_write g.C.Cells.rule) (grid_element_number c.args.p.now c.in-At-default-default-Some-default.array (to_z w32 (of_z w32 c.in_ok-row-in-At-default-default-Some-default.row)) j) (GridIndex (to_z w32 (of_z w32 c.in_ok-row-in-At-default-default-Some-default.row)) j) c.in-At-default-default-Some-default.place c.value_of-in-At-default-default-Some-default-2.new.cells c.read-in-At-default-default-Some-default.result c.read-in-At-default-default-Some-default.new.cells) (let fits : SFits w32 c.in_ok-column-in-At-default-default-Some-default.column = search rules in to_z-of_z w32 c.in_ok-column-in-At-default-default-Some-default.column fits) (subst (λ (cell : Option ℕ). ReadsAt (ways_of g.C.Cells.known g.C.Cells.may_read g.C.Cells.may_write g.C.Cells.rule) cell (GridIndex (to_z w32 (of_z w32 c.in_ok-row-in-At-default-default-Some-default.row)) (to_z w32 (of_z w32 c.in_ok-column-in-At-default-default-Some-default.column))) c.in-At-default-default-Some-default.place c.value_of-in-At-default-default-Some-default-2.new.cells c.read-in-At-default-default-Some-default.result c.read-in-At-default-default-Some-default.new.cells) c.grid_element_number-cell.ensures c.read-in-At-default-default-Some-default.ensures))))

@@ -1,15 +1,14 @@
-//! What no run of a program shows: ends that fail.
+//! Programs that read one text, on ends that fail.
 ghost use Rattle.std.specs.Prelude.{◌≡◌, codes};
 ghost use Rattle.twe_report.specs.Causes.{without_words};
 ghost use Rattle.twe_io.specs.Answers.{on_out};
 ghost use Rattle.twe_io.specs.declared.status.Status.TheVariants.{Done};
 
-use crate::program::{TextProgram, without_words};
-use crate::run::run_text_program;
 use std::alloc::Global;
 use std::test::Fail;
 use twe_base::{Bytes, Calls, Memory, Word};
 use twe_io::{Answer, MemSink, MemSource, Status};
+use twe_report::{TextProgram, run_text_program, without_words};
 
 const TEXT: &[u8] = b"a text\n";
 
