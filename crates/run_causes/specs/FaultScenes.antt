@@ -8,10 +8,11 @@ use Rattle.seg_journal.specs.declared.journal.End.TheVariants as ends
 use Rattle.seg_journal.specs.declared.journal.Entry.{Entry}
 use Rattle.seg_journal.specs.declared.moves.Kind.TheVariants.{Run}
 use Rattle.twe_program.specs.Program.{Program}
-use Rattle.seg_exec.specs.declared.fault.FaultCause.TheVariants as causes
+use Rattle.seg_exec.specs.declared.fault.FaultCause.{FaultCause}
 use Rattle.seg_exec.specs.declared.frame.Frame.{Frame}
 use Rattle.seg_exec.specs.declared.frame.OpenBody.{OpenBody}
 use Rattle.seg_exec.specs.Segment.{flow_of, segment}
+use Rattle.seg_exec.specs.Causes.{fault_kind}
 use Rattle.seg_exec.specs.Scene.{scene_of}
 use Rattle.seg_exec.specs.declared.scene.FaultScene.{FaultScene}
 use Rattle.twe_machine.specs.declared.state.FirstFault.{FirstFault}
@@ -28,7 +29,7 @@ faulty_entry fault = record { mv = record { kind = Run; task = fault.task }; end
 -- method is active then
 abbrev pub scene_between : List ℤ → Option OpenBody → Option FaultScene
 scene_between cells None = None
-scene_between cells (Some body) = Some (record { cause = causes.TaskLimit; vars = body.vars; calls = []; cells = cells })
+scene_between cells (Some body) = Some (record { cause = None; vars = body.vars; calls = []; cells = cells })
 
 -- the scene of a fault of this kind that the segment of this frame ends with: a task too many is refused after the segment has
 -- stopped at its make, and any other fault is met within the segment
@@ -41,8 +42,19 @@ abbrev pub scene_ahead : Program → State → FaultKind → Option TaskRow → 
 scene_ahead p st kind None = None
 scene_ahead p st kind (Some row) = scene_by_kind p (ready_frame st.tasks row.frame) st.cells kind
 
+-- the kind of fault that a cause leads to; what has no cause within a segment is a task too many
+abbrev pub cause_kind : Option FaultCause → FaultKind
+cause_kind None = TaskLimit
+cause_kind (Some cause) = fault_kind cause
+
+-- there is a scene, and its cause leads to a fault of this kind
+pub record HasScene (kind : FaultKind) (scene : Option FaultScene) : Type 0 where
+  pub there : FaultScene
+  pub is : scene ≡ Some there
+  pub kind : cause_kind there.cause ≡ kind
+
 -- This is the scene of the first fault of a journal: the entries before it met none and lead to a state, from which the next
--- segment of its task meets a fault with this scene.
+-- segment of its task meets a fault with this scene. There is one, and its cause is one of such a fault.
 pub record IsFaultScene (p : Program) (lim : Bounds) (journal : List Entry) (fault : FirstFault) (scene : Option FaultScene)
     : Type 0 where
   pub before : List Entry
@@ -50,3 +62,4 @@ pub record IsFaultScene (p : Program) (lim : Bounds) (journal : List Entry) (fau
   pub split : journal ≡ before ++ faulty_entry fault ∷ later
   pub first : All (λ entry. is_fault entry.end ≡ false) before
   pub same : scene ≡ scene_ahead p (state_after p lim before) fault.kind (slice_get (state_after p lim before).tasks fault.task)
+  pub there : HasScene fault.kind scene

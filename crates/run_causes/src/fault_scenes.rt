@@ -5,7 +5,7 @@ ghost use Rattle.twe_program.specs.Program.{cell_count};
 ghost use Rattle.twe_machine.specs.Runs.{Legal, is_fault, state_after};
 ghost use Rattle.run_causes.specs.FaultScenes.{IsFaultScene, scene_ahead, scene_between, scene_by_kind};
 
-use seg_exec::{FaultCause, FaultScene, fault_scene, run_segment_over_list};
+use seg_exec::{FaultScene, fault_scene, run_segment_over_list};
 use seg_journal::{End, Entry, Limits};
 use std::alloc::Global;
 use twe_base::{FaultKind, Ints, List, Memory};
@@ -26,7 +26,7 @@ fn scene_between(alloc: Global, cells: Ints, body: Option<OpenBody>) -> Option<F
     match body {
         None => None,
         Some(body) => Some(FaultScene {
-            cause: FaultCause::TaskLimit,
+            cause: None,
             vars: body.vars,
             calls: List::new(alloc),
             cells,

@@ -76,9 +76,9 @@ abbrev pub task_limit_text : ℕ → List ℕ
 task_limit_text tasks = codes "the limit on tasks is " ++ (decimal tasks ++ codes " in this run, and main is one of them")
 
 -- the index, or the row and the column, that led to a fault, as words before those on its bound
-abbrev pub index_words : FaultCause → List ℕ
-index_words (Index index) = codes "the index is " ++ (signed_decimal index ++ codes "; ")
-index_words (GridIndex row column) =
+abbrev pub index_words : Option FaultCause → List ℕ
+index_words (Some (Index index)) = codes "the index is " ++ (signed_decimal index ++ codes "; ")
+index_words (Some (GridIndex row column)) =
     codes "the row is " ++ (signed_decimal row ++ (codes " and the column is " ++ (signed_decimal column ++ codes "; ")))
 index_words _ = []
 

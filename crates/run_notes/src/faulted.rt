@@ -143,16 +143,16 @@ fn fault_remark(
 }
 
 /// Appends the index, or the row and the column, that led to a fault, as words before those on its bound.
-fn push_index_words(text: &mut Bytes, cause: FaultCause) -> Result<(), Memory>
+fn push_index_words(text: &mut Bytes, cause: Option<FaultCause>) -> Result<(), Memory>
     ensures { OnOk result (text.new ≡ text.old ++ index_words cause) }
 {
     match cause {
-        FaultCause::Index(index) => {
+        Some(FaultCause::Index(index)) => {
             text.push_all(b"the index is ")?;
             text.push_all(Buffer::new().format(index).as_bytes())?;
             text.push_all(b"; ")
         }
-        FaultCause::GridIndex { row, column } => {
+        Some(FaultCause::GridIndex { row, column }) => {
             text.push_all(b"the row is ")?;
             text.push_all(Buffer::new().format(row).as_bytes())?;
             text.push_all(b" and the column is ")?;

@@ -1,8 +1,8 @@
--- What leads to a fault.
+-- What leads to a fault within a segment.
 use Rattle.twe_base.specs.declared.fault.FaultKind.{FaultKind}
 use Rattle.twe_base.specs.declared.fault.FaultKind.TheVariants as kinds
 use Rattle.seg_exec.specs.declared.fault.FaultCause.{FaultCause}
-use Rattle.seg_exec.specs.declared.fault.FaultCause.TheVariants.{DivZero, Index, GridIndex, Fuel, Depth, TaskLimit}
+use Rattle.seg_exec.specs.declared.fault.FaultCause.TheVariants.{DivZero, Index, GridIndex, Fuel, Depth}
 
 -- the kind of fault that a cause leads to
 abbrev pub fault_kind : FaultCause → FaultKind
@@ -11,4 +11,3 @@ fault_kind (Index index) = kinds.Index
 fault_kind (GridIndex row column) = kinds.Index
 fault_kind Fuel = kinds.Fuel
 fault_kind Depth = kinds.Depth
-fault_kind TaskLimit = kinds.TaskLimit

@@ -1,10 +1,10 @@
-//! What leads to a fault.
+//! What leads to a fault within a segment.
 ghost use Rattle.std.specs.Prelude.{◌≡◌};
 ghost use Rattle.seg_exec.specs.Causes.{fault_kind};
 
 use twe_base::FaultKind;
 
-/// What leads to a fault, with the values that led to it.
+/// What leads to a fault within a segment, with the values that led to it. A task too many is none: the segment has stopped then.
 #[derive(Clone, Copy, Debug, PartialEq, Eq)]
 pub enum FaultCause {
     /// A division by zero, or a remainder of one.
@@ -22,8 +22,6 @@ pub enum FaultCause {
     Fuel,
     /// Too many method calls are active at once.
     Depth,
-    /// The task makes one task more than the limits allow. A segment stops at the make, and never leads to this.
-    TaskLimit,
 }
 
 impl FaultCause {
@@ -37,7 +35,6 @@ impl FaultCause {
             FaultCause::GridIndex { .. } => FaultKind::Index,
             FaultCause::Fuel => FaultKind::Fuel,
             FaultCause::Depth => FaultKind::Depth,
-            FaultCause::TaskLimit => FaultKind::TaskLimit,
         }
     }
 }

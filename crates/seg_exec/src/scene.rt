@@ -20,8 +20,8 @@ use twe_program::Prog;
 /// What was there when a segment met its fault.
 #[derive(Debug, Drop)]
 pub struct FaultScene {
-    /// What led to the fault.
-    pub cause: FaultCause,
+    /// What led to the fault; none at a task too many, for which a segment stops before it is refused.
+    pub cause: Option<FaultCause>,
     /// The values of the parameters and locals of the active body.
     pub vars: Ints,
     /// The active method calls, the latest first.
@@ -41,7 +41,7 @@ fn scene_at(
 {
     match ending {
         Ending::Faulted { cause, .. } => Ok(Some(FaultScene {
-            cause: *cause,
+            cause: Some(*cause),
             vars: machine.vars.into_active(alloc)?,
             calls: machine.work.into_calls(alloc)?,
             cells,

@@ -5,18 +5,20 @@ use Rattle.std.proofs.lemmas.List.{take-append-drop, take_all, take_more}
 use Rattle.std.proofs.lemmas.List.Elements.{All-nil, All-push}
 use Rattle.seg_journal.specs.declared.journal.End.{End}
 use Rattle.seg_journal.specs.declared.journal.End.TheVariants.{Admitted}
+use Rattle.seg_journal.specs.declared.journal.End.TheVariants as ends
 use Rattle.seg_journal.specs.declared.journal.Entry.{Entry}
 use Rattle.seg_journal.specs.declared.moves.Kind.TheVariants.{Admit}
 use Rattle.twe_program.specs.WellFormed.{IsWellFormed}
 use Rattle.twe_machine.specs.declared.state.State.{State}
 use Rattle.twe_machine.specs.Legal.{MayMove}
-use Rattle.twe_machine.specs.Moves.{move_result, start_of}
+use Rattle.twe_machine.specs.Moves.{move_result, ran, start_of}
 use Rattle.twe_machine.specs.Runs.{is_fault, state_after}
 use Rattle.twe_machine.proofs.standing.ReachedStands.{reached_stands}
 use Rattle.twe_machine.proofs.tasks.Movers.{mover_there}
-use Rattle.run_causes.specs.FaultScenes.{faulty_entry, scene_ahead}
+use Rattle.run_causes.specs.FaultScenes.{HasScene, faulty_entry, scene_ahead}
 use Rattle.run_causes.proofs.Beginnings.{next_may, reached_by, state_more}
 use Rattle.run_causes.proofs.FirstFaults.{ended_so, first_entry_is, still_none}
+use Rattle.run_causes.proofs.ScenesThere.{scene_is_there}
 use Rattle.run_causes.proofs.fault_scenes.scene_of_fault.Goals as goal
 
 abbrev first_entry : Entry
@@ -92,6 +94,13 @@ returns-then-is_fault c =
     let is : entry ≡ faulty_entry c.args.fault =
     first_entry_is p lim (subst IsWellFormed c.p.view_is c.p.invariant) journal i first_entry c.args.fault c.requires.legal c.loop-entry-test.true
     (ap (λ (s : State). s.first_fault) (sym is_now) ∙ c.loop-entry.invariant.none) (sym c.is_fault.ensures ∙ c.if-is_fault.true) c.requires.fault in
+    let same : c.in_ok-scene.scene ≡ scene_ahead p before c.args.fault.kind (slice_get before.tasks c.args.fault.task) =
+    c.in_ok-scene.ensures
+    ∙ (ap (λ (s : State). scene_ahead p s c.args.fault.kind (slice_get s.tasks entry.mv.task)) is_now
+    ∙ ap (λ (e : Entry). scene_ahead p before c.args.fault.kind (slice_get before.tasks e.mv.task)) is) in
+    let ended : (move_result p lim before entry.mv).1 ≡ entry.end = ended_so p lim (start_of p lim) journal i first_entry c.requires.legal c.loop-entry-test.true in
+    let met : (ran p lim before c.args.fault.task (slice_get before.tasks c.args.fault.task)).1 ≡ ends.Fault c.args.fault.kind c.args.fault.place =
+    subst (λ (e : Entry). (move_result p lim before e.mv).1 ≡ e.end) is ended in
     record {
       before = take i journal;
       later = drop (suc i) journal;
@@ -99,9 +108,9 @@ returns-then-is_fault c =
           ∙ (ap (λ (l : List Entry). take i journal ++ l) (drop-cons journal i first_entry c.loop-entry-test.true)
           ∙ ap (λ (e : Entry). take i journal ++ e ∷ drop (suc i) journal) is);
       first = c.loop-entry.invariant.quiet;
-      same = c.in_ok-scene.ensures
-          ∙ (ap (λ (s : State). scene_ahead p s c.args.fault.kind (slice_get s.tasks entry.mv.task)) is_now
-          ∙ ap (λ (e : Entry). scene_ahead p before c.args.fault.kind (slice_get before.tasks e.mv.task)) is);
+      same = same;
+      there = subst (HasScene c.args.fault.kind) (sym same)
+          (scene_is_there p lim before c.args.fault.task (slice_get before.tasks c.args.fault.task) c.args.fault.kind c.args.fault.place met);
     }
 
 -- one entry has met it
