@@ -1,7 +1,8 @@
--- What the cells hold at the end of a run.
-use Rattle.std.specs.Prelude.{ℕ, ◌-◌, ◌++◌, Bool, ℤ, List, [], ◌∷◌, codes, decimal, drop, if◌then◌else◌, length, map, nat_lt, take}
+-- What the cells held at a fault.
+use Rattle.std.specs.Prelude.{ℕ, ◌-◌, ◌++◌, Bool, ℤ, List, [], ◌∷◌, Option, None, Some, codes, decimal, drop, if◌then◌else◌, length, map, nat_lt, take}
 use Rattle.twe_program.specs.declared.program.CellDecl.{CellDecl}
 use Rattle.twe_program.specs.Program.{size_of}
+use Rattle.seg_exec.specs.declared.scene.FaultScene.{FaultScene}
 use Rattle.run_texts.specs.TaskLabels.{listed_args}
 
 -- how many values of a declaration are shown at most
@@ -21,9 +22,9 @@ abbrev pub listed_values : List ℤ → List ℕ
 listed_values values =
     listed_args (take most_values values) ++ (if nat_lt most_values (length values) then codes ", .." else [])
 
--- what the cells of a declaration hold, as `at the end d is 0, 1, 2, 3`
+-- what the cells of a declaration held, as `at the fault d is 0, 1, 2, 3`
 abbrev pub cell_shown : List ℤ → CellDecl → List ℕ
-cell_shown values cell = codes "at the end `" ++ (cell.name ++ (codes "` is " ++ listed_values (values_of values cell)))
+cell_shown values cell = codes "at the fault `" ++ (cell.name ++ (codes "` is " ++ listed_values (values_of values cell)))
 
 -- how many declarations are left out
 abbrev pub cells_left_out_text : ℕ → List ℕ
@@ -33,6 +34,11 @@ cells_left_out_text number = codes "declarations of cells that are left out here
 abbrev pub cells_left_out : ℕ → List (List ℕ)
 cells_left_out count = if nat_lt most_cells count then cells_left_out_text (count - most_cells) ∷ [] else []
 
--- what the cells hold, declaration by declaration
+-- what the cells held, declaration by declaration
 abbrev pub cells_shown : List ℤ → List CellDecl → List (List ℕ)
 cells_shown values cells = map (cell_shown values) (take most_cells cells) ++ cells_left_out (length cells)
+
+-- the same of a scene, if there is one
+abbrev pub scene_cells_shown : Option FaultScene → List CellDecl → List (List ℕ)
+scene_cells_shown None cells = []
+scene_cells_shown (Some scene) cells = cells_shown scene.cells cells

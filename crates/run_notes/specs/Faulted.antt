@@ -22,7 +22,7 @@ use Rattle.place_notes.specs.declared.note.Note.{Note}
 use Rattle.place_notes.specs.WordAt.{word_at}
 use Rattle.place_notes.specs.Notes.{note_at}
 use Rattle.run_notes.specs.CallsShown.{call_notes, calls_left_out, runs_of}
-use Rattle.run_notes.specs.CellsShown.{cells_shown}
+use Rattle.run_notes.specs.CellsShown.{scene_cells_shown}
 use Rattle.run_notes.specs.TaskTexts.{task_shown}
 use Rattle.run_notes.specs.VariablesShown.{scene_remarks}
 use Rattle.run_notes.specs.declared.calls_shown.CallRun.{CallRun}
@@ -124,12 +124,12 @@ abbrev pub fault_notes : Program → State → List Making → List CallRun → 
 fault_notes p st makings runs task place =
     note_at place (fault_caption p st task) ∷ (call_notes p runs ++ made_notes p st (making_of makings task))
 
--- what is said beside the places: the index that led to it and the bound that was met, what the variables in scope held, and what the cells hold
+-- what is said beside the places: the index that led to it and the bound that was met, what the variables in scope held, and what the cells held
 abbrev pub fault_remarks : List ℕ → List Item → Program → Bounds → State → Option FaultScene → FirstFault → List (List ℕ)
 fault_remarks text items p lim st scene fault =
     (index_words_in scene ++ fault_remark lim p.cells (word_at text fault.place) fault.kind)
     ∷ (calls_left_out (runs_of_scene scene)
-    ++ (scene_remarks p (slice_get st.tasks fault.task) items fault.place scene ++ cells_shown st.cells p.cells))
+    ++ (scene_remarks p (slice_get st.tasks fault.task) items fault.place scene ++ scene_cells_shown scene p.cells))
 
 -- what is said of a fault with this scene in a run of this text under these limits, which has come to this state; the
 -- declarations are those of the text

@@ -1,9 +1,10 @@
-//! What the cells hold at the end of a run.
+//! What the cells held at a fault.
 ghost use Rattle.std.specs.Prelude.{◌≡◌, ◌++◌, ◌∷◌, [], drop, take, IfOk, OnOk, length, map};
-ghost use Rattle.run_notes.specs.CellsShown.{cell_shown, cells_shown, cells_left_out, cells_left_out_text, listed_values, most_cells, values_of};
+ghost use Rattle.run_notes.specs.CellsShown.{cell_shown, cells_shown, cells_left_out, cells_left_out_text, listed_values, most_cells, scene_cells_shown, values_of};
 
 use itoa::Buffer;
 use run_texts::push_listed_args;
+use seg_exec::FaultScene;
 use std::alloc::Global;
 use twe_base::{Bytes, List, Memory};
 use twe_program::CellDecl;
@@ -59,7 +60,7 @@ fn push_values(text: &mut Bytes, values: &[i32]) -> Result<(), Memory>
 fn cell_shown(alloc: Global, values: &[i32], cell: &CellDecl) -> Result<Bytes, Memory>
     ensures { IfOk result (λ text. text ≡ cell_shown values.now cell.now) }
 {
-    let mut text = Bytes::from_slice(alloc, b"at the end `")?;
+    let mut text = Bytes::from_slice(alloc, b"at the fault `")?;
     text.push_all(cell.name.as_bytes())?;
     text.push_all(b"` is ")?;
     push_values(&mut text, values_of(values, cell))?;
@@ -96,7 +97,7 @@ fn first_cells(cells: &[CellDecl]) -> &[CellDecl]
     }
 }
 
-/// Adds what the cells of each of these declarations hold.
+/// Adds what the cells of each of these declarations held.
 fn push_each_cell(
     remarks: &mut List<Bytes>,
     alloc: Global,
@@ -111,8 +112,8 @@ fn push_each_cell(
     Ok(())
 }
 
-/// Adds what the cells hold, declaration by declaration.
-pub(crate) fn push_cells_shown(
+/// Adds what the cells held, declaration by declaration.
+fn push_cells_shown(
     remarks: &mut List<Bytes>,
     alloc: Global,
     values: &[i32],
@@ -122,4 +123,19 @@ pub(crate) fn push_cells_shown(
 {
     push_each_cell(remarks, alloc, values, first_cells(cells))?;
     push_cells_left_out(remarks, alloc, cells.len())
+}
+
+/// Adds what the cells held in a scene, if there is one.
+pub(crate) fn push_scene_cells_shown(
+    remarks: &mut List<Bytes>,
+    alloc: Global,
+    scene: &Option<FaultScene>,
+    cells: &[CellDecl],
+) -> Result<(), Memory>
+    ensures { OnOk result (remarks.new ≡ remarks.old ++ scene_cells_shown scene.now cells.now) }
+{
+    match scene {
+        None => Ok(()),
+        Some(scene) => push_cells_shown(remarks, alloc, scene.cells.as_slice(), cells),
+    }
 }

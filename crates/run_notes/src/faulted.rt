@@ -3,7 +3,7 @@ ghost use Rattle.std.specs.Prelude.{◌≡◌, ◌∷◌, ◌++◌, [], IfOk, On
 ghost use Rattle.run_notes.specs.Faulted.{bounds_found, bounds_text, dims_named, fault_caption, fault_explanation, fault_headline, fault_notes, fault_remark, fault_remarks, index_words, index_words_in, runs_of_scene, task_fuel_text, any_bound, grid_bounds, made_caption, made_notes, notes_if, row_bound, task_limit_text};
 
 use crate::calls_shown::{CallRun, push_call_notes, push_calls_left_out, runs_of};
-use crate::cells_shown::push_cells_shown;
+use crate::cells_shown::push_scene_cells_shown;
 use crate::task_texts::push_task;
 use crate::variables_shown::push_scene_remarks;
 use itoa::Buffer;
@@ -305,12 +305,12 @@ fn fault_remarks(
     push_calls_left_out(&mut remarks, alloc, runs)?;
     let row = st.tasks.get(fault.task as usize);
     push_scene_remarks(&mut remarks, alloc, p, row, items, fault.place, scene)?;
-    push_cells_shown(&mut remarks, alloc, st.cells.as_slice(), cells)?;
+    push_scene_cells_shown(&mut remarks, alloc, scene, cells)?;
     Ok(remarks)
 }
 
-/// What is said of a fault with this scene in a run of this text under these limits, which has come to this state, with what the
-/// cells hold then. The declarations are those of the text.
+/// What is said of a fault with this scene in a run of this text under these limits, which has come to this state. The declarations
+/// are those of the text.
 pub(crate) fn fault_explanation(
     alloc: Global,
     text: &[u8],
