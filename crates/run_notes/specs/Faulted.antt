@@ -124,7 +124,8 @@ abbrev pub fault_notes : Program → State → List Making → List CallRun → 
 fault_notes p st makings runs task place =
     note_at place (fault_caption p st task) ∷ (call_notes p runs ++ made_notes p st (making_of makings task))
 
--- what is said beside the places: the index that led to it and the bound that was met, what the variables in scope held, and what the cells held
+-- what is said beside the places: the index that led to it and the bound that was met, what the variables in scope held, and
+-- what the cells held
 abbrev pub fault_remarks : List ℕ → List Item → Program → Bounds → State → Option FaultScene → FirstFault → List (List ℕ)
 fault_remarks text items p lim st scene fault =
     (index_words_in scene ++ fault_remark lim p.cells (word_at text fault.place) fault.kind)

@@ -309,8 +309,8 @@ fn fault_remarks(
     Ok(remarks)
 }
 
-/// What is said of a fault with this scene in a run of this text under these limits, which has come to this state. The declarations
-/// are those of the text.
+/// What is said of a fault with this scene in a run of this text under these limits, which has come to this state. The
+/// declarations are those of the text.
 pub(crate) fn fault_explanation(
     alloc: Global,
     text: &[u8],

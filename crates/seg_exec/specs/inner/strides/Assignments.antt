@@ -59,5 +59,6 @@ MayWriteAt ways cells cell = (k : ℕ) → cell ≡ Some k → ways.may_write ce
 
 -- the write of an element; a fault with this cause if there is no such element
 abbrev pub WritesAt : {C : Type 0} → Ways C → Option ℕ → FaultCause → ℤ → Place → C → Carried → C → Type 0
-WritesAt ways None missing value place old result new = (result ≡ Faulted (record { cause = missing; place = place })) × (new ≡ old)
+WritesAt ways None missing value place old result new =
+    (result ≡ Faulted (record { cause = missing; place = place })) × (new ≡ old)
 WritesAt ways (Some cell) missing value place old result new = (result ≡ Done) × HasWritten ways old cell value new
