@@ -23,7 +23,7 @@ use Rattle.seg_exec.specs.inner.steps.Reached.{Standing, Served, Advances}
 use Rattle.seg_exec.specs.inner.steps.Sizes.{size_of_expression, size_of_arguments, size_of_statement, size_of_all, size_of_arms, size_of_continuation, size_of_work}
 use Rattle.seg_exec.specs.inner.steps.Continuations.{Continuation, Evaluate, Execute, Rest, Choose, Chosen, Turn, Gather, Take, Negate, Invert, Right, Apply, ReadElement, ReadGridElement, GiveVar, GiveCell, GiveElement, GiveGridElement, PrintValue, Discard, Unwind, Suspend, Leave, Config, top, without_operand}
 use Rattle.seg_exec.specs.declared.fault.FaultCause.{FaultCause}
-use Rattle.seg_exec.specs.inner.steps.Steps.{Step, Recovery, ToCaller, OfBlock, NoRecovery, asked_unit, unit_or, chosen_by, turned_by, entered_by, gathered, gathering, right_by, applied, read_at, written_at, unwound, unwound_past, suspended, suspended_past, recovered_from, worked, evaluated, executed, rested, choosing, step_by, step_of}
+use Rattle.seg_exec.specs.inner.steps.Steps.{Step, Recovery, ToCaller, OfBlock, NoRecovery, asked_unit, unit_or, chosen_by, turned_by, entered_by, gathered, gathering, right_by, applied, read_at, written_at, unwound, unwound_past, suspended, suspended_past, recovered_from, worked, evaluated, executed, is_return, rest_below, rested, choosing, step_by, step_of}
 
 -- a step that is not the end has no more fuel, and, with as much fuel, less work
 abbrev FallsIn : ℕ → ℕ → Request → Config → Type 0
@@ -87,9 +87,15 @@ executed_falls (Call point method args place) c = (omega arith, λ e. omega arit
 executed_falls (Make point future task args spawned future_place place) c = (omega arith, λ e. omega arith)
 executed_falls (Wait point future join into place) c = unit_falls _ place c _ (λ left h. h)
 
+below_size : (returning : Bool) (block at : ℕ) (others : Statements) (work : List Continuation) → size_of_work (rest_below returning block at others work) ≤ size_of_all others + 1 + size_of_work work
+below_size true block at others work = omega arith
+below_size false block at others work = omega arith
+
 rested_falls : (block at : ℕ) (stmts : Statements) (c : Config) → Falls c.fuel (size_of_all stmts + 1 + size_of_work c.work) (rested block at stmts c)
 rested_falls block at no_more c = (omega arith, λ e. omega arith)
-rested_falls block at (statement first others) c = (omega arith, λ e. omega arith)
+rested_falls block at (statement first others) c =
+    let less = below_size (is_return first) block (at + 1) others c.work in
+    (omega arith, λ e. omega (arith, less))
 
 choosing_falls : (block : ℕ) (arms : Arms) (c : Config) → Falls c.fuel (size_of_arms arms + 1 + size_of_work c.work) (choosing block arms c)
 choosing_falls block (arm condition body others) c = (omega arith, λ e. omega arith)

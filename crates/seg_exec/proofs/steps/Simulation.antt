@@ -24,9 +24,9 @@ use Rattle.seg_exec.specs.Cells.{element_number, grid_element_number}
 use Rattle.seg_exec.specs.Store.{Store, Given, gives, faults, Flow, goes, returns, fails, stops, then_give, then_do, then_go, unit_taken}
 use Rattle.seg_exec.specs.declared.fault.FaultCause.{FaultCause}
 use Rattle.seg_exec.specs.declared.fault.FaultCause.TheVariants.{Index, GridIndex}
-use Rattle.seg_exec.specs.Meaning.{Below, element_read, element_written, value_or_fault, right_given, body_of, vars_at_start, given_back, entered, called, value_of, values_of, turned, chosen, stopped_at, done_by, done_all, done_arms, done_within}
+use Rattle.seg_exec.specs.Meaning.{Below, element_read, element_written, value_or_fault, right_given, value_returned, body_of, vars_at_start, given_back, entered, called, value_of, values_of, turned, chosen, stopped_at, done_by, done_all, done_arms, done_within}
 use Rattle.seg_exec.specs.inner.steps.Continuations.{Continuation, Evaluate, Execute, Rest, Choose, Chosen, Turn, Gather, Take, Negate, Invert, Right, Apply, ReadElement, ReadGridElement, GiveVar, GiveCell, GiveElement, GiveGridElement, PrintValue, Discard, Unwind, Suspend, Leave, Config, to_do}
-use Rattle.seg_exec.specs.inner.steps.Steps.{Step, on, unit_or, asked_unit, read_at, written_at, right_by, applied, turned_by, chosen_by, entered_by}
+use Rattle.seg_exec.specs.inner.steps.Steps.{Step, on, unit_or, asked_unit, read_at, written_at, right_by, applied, turned_by, chosen_by, entered_by, is_return, rest_below}
 use Rattle.seg_exec.specs.inner.steps.Runs.{Moment, Over, Comes, moment, stepped, run}
 
 module _ (p : Program) where
@@ -102,6 +102,48 @@ module _ (p : Program) where
   rest_then bound block at from others work values (returns value s) next h k = (h.0, onward from _ _ h.1 (one _ _ (λ k. refl)))
   rest_then bound block at from others work values (fails cause place s) next h k = h
   rest_then bound block at from others work values (stops operation positions s) next h k = (h.0, onward from _ _ h.1 (one _ _ (λ k. refl)))
+
+  -- the same where a statement that is a return has nothing of the block below it
+  abbrev Leaves : Flow → Type 0
+  Leaves (goes s) = ⊥
+  Leaves (returns value s) = Unit {0}
+  Leaves (fails cause place s) = Unit {0}
+  Leaves (stops operation positions s) = ⊥
+
+  left_then : (bound block at : ℕ) (from : Moment) (work : List Continuation) (values : List ℤ) (f : Flow) (next : Store → Flow)
+      → Leaves f → FlowTo bound from work values f → FlowTo bound from work values (then_go (stopped_at block at f) next)
+  left_then bound block at from work values (goes s) next leaves h = absurd leaves
+  left_then bound block at from work values (returns value s) next leaves h = h
+  left_then bound block at from work values (fails cause place s) next leaves h = h
+  left_then bound block at from work values (stops operation positions s) next leaves h = absurd leaves
+
+  below_then : (returning : Bool) (bound block at : ℕ) (from : Moment) (others : Statements) (work : List Continuation) (values : List ℤ) (f : Flow) (next : Store → Flow)
+      → (returning ≡ true → Leaves f)
+      → FlowTo bound from (rest_below returning block at others work) values f
+      → ((s : Store) → s.fuel ≤ bound → FlowTo bound (moment (Rest block at others ∷ work) values s) work values (next s))
+      → FlowTo bound from work values (then_go (stopped_at block at f) next)
+  below_then true bound block at from others work values f next leaves h k = left_then bound block at from work values f next (leaves refl) h
+  below_then false bound block at from others work values f next leaves h k = rest_then bound block at from others work values f next h k
+
+  given_leaves : (g : Given ℤ) → Leaves (value_returned g)
+  given_leaves (gives value s) = tt
+  given_leaves (faults cause place s) = tt
+
+  return_leaves : (below : Below) (stmt : Statement) (s : Store) → is_return stmt ≡ true → Leaves (done_by below p stmt s)
+  return_leaves below (Return point None) s is = tt
+  return_leaves below (Return point (Some value)) s is = given_leaves (value_of below p value s)
+  return_leaves below (Block point body) s is = absurd (cc)
+  return_leaves below (Let point var value) s is = absurd (cc)
+  return_leaves below (Set point var value) s is = absurd (cc)
+  return_leaves below (SetCell point cell value place) s is = absurd (cc)
+  return_leaves below (SetArray point array index value place) s is = absurd (cc)
+  return_leaves below (SetGrid point array row column value place) s is = absurd (cc)
+  return_leaves below (If point arms) s is = absurd (cc)
+  return_leaves below (While point condition body place) s is = absurd (cc)
+  return_leaves below (Print point value place) s is = absurd (cc)
+  return_leaves below (Call point method args place) s is = absurd (cc)
+  return_leaves below (Make point future task args spawned future_place place) s is = absurd (cc)
+  return_leaves below (Wait point future join into place) s is = absurd (cc)
 
   -- after the body of a loop
   pub again_then : (bound : ℕ) (from : Moment) (again : Statement) (work : List Continuation) (values : List ℤ) (f : Flow) (next : Store → Flow)
@@ -367,9 +409,10 @@ module _ (p : Program) where
           → FlowTo bound (moment (Rest block at stmts ∷ work) values s) work values (done_all below p block at stmts s)
       all_meet no_more block at bound le s h work values = (h, one _ _ (λ k. refl))
       all_meet (statement first others) block at bound le s h work values =
-          flow_later bound _ (moment (Execute first ∷ (Rest block (at + 1) others ∷ work)) values s) work values _ (one _ _ (λ k. refl))
-          (rest_then bound block (at + 1) _ others work values (done_by below p first s) (λ s1. done_all below p block (at + 1) others s1)
-          (statement_meets first bound le s h (Rest block (at + 1) others ∷ work) values)
+          let under = rest_below (is_return first) block (at + 1) others work in
+          flow_later bound _ (moment (Execute first ∷ under) values s) work values _ (one _ _ (λ k. refl))
+          (below_then (is_return first) bound block (at + 1) _ others work values (done_by below p first s) (λ s1. done_all below p block (at + 1) others s1)
+          (return_leaves below first s) (statement_meets first bound le s h under values)
           (λ s1 h1. all_meet others block (at + 1) bound le s1 h1 work values))
 
       arms_meet : (arms : Arms) (block bound : ℕ) → bound ≤ n → (s : Store) → s.fuel ≤ bound → (work : List Continuation) (values : List ℤ)

@@ -1,5 +1,5 @@
 -- Assignments, by the steps that carry them out.
-use Rattle.std.proofs.Common.{◌≡◌, ℕ, ℤ, Option, None, Some, Result, Ok, Err, List, ◌∷◌, refl, sym, subst}
+use Rattle.std.proofs.Common.{◌≡◌, false, ℕ, ℤ, Option, None, Some, Result, Ok, Err, List, ◌∷◌, refl, sym, subst}
 use Rattle.std.specs.Prelude.{slice_set}
 use Rattle.twe_base.specs.declared.place.Place.{Place}
 use Rattle.twe_program.specs.Program.{Program}
@@ -13,14 +13,20 @@ use Rattle.seg_exec.specs.declared.strides.assign.Target.TheVariants.{Var, Cell}
 use Rattle.seg_exec.specs.declared.strides.value.Fault.{Fault}
 use Rattle.seg_exec.specs.Access.{HasWritten, Ways}
 use Rattle.seg_exec.specs.Cells.{cell_number, element_number}
-use Rattle.seg_exec.specs.inner.strides.Assignments.{Does, MayDo, MayWriteAt, WritesAt, executing, giving_to, to_element, to_target}
+use Rattle.seg_exec.specs.inner.strides.Assignments.{Does, MayDo, MayWriteAt, Stays, WritesAt, executing, giving_to, to_element, to_target}
 use Rattle.seg_exec.specs.inner.steps.Continuations.{Config, Continuation, Evaluate, GiveVar, GiveCell, GiveElement}
 use Rattle.seg_exec.specs.inner.steps.Reached.{MayRequest, Served}
 use Rattle.seg_exec.specs.declared.fault.FaultCause.{FaultCause}
 use Rattle.seg_exec.specs.declared.fault.FaultCause.TheVariants.{Index}
-use Rattle.seg_exec.specs.inner.steps.Steps.{Step, executed, on, step_of, written_at}
+use Rattle.seg_exec.specs.inner.steps.Steps.{Step, executed, is_return, on, step_of, written_at}
 use Rattle.seg_exec.specs.inner.strides.Strides.{EvaluatesTo, Goes, MayEvaluate, fault_ending, stand}
 use Rattle.seg_exec.proofs.strides.Strides.{ended, ends_alike, may_now, may_then, one_step, silent, then_ends, then_goes}
+
+-- whatever became of a statement that is no return
+pub stays_so : (s : Statement) (result : Carried) → is_return s ≡ false → Stays s result
+stays_so s Done is = is
+stays_so s (Faulted fault) is = tt
+stays_so s Left is = tt
 
 module _ {C : Type 0} (p : Program) (ways : Ways C) where
   -- the same with equal variables

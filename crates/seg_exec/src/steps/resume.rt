@@ -6,7 +6,7 @@ ghost use Rattle.twe_program.specs.inner.StatementView.{arms_of};
 ghost use Rattle.seg_exec.specs.declared.steps.continuation.Continuation.TheVariants.{Leave};
 ghost use Rattle.seg_exec.specs.inner.steps.Bodies.{last_of};
 ghost use Rattle.seg_exec.specs.inner.steps.Continuations.{Suspend, Unwind, to_do, top, without_operand};
-ghost use Rattle.seg_exec.specs.inner.steps.Steps.{back_with, chosen_next, choosing, on, rested, returned, suspended, turned_next, unwound};
+ghost use Rattle.seg_exec.specs.inner.steps.Steps.{back_with, chosen_next, choosing, is_return, on, rested, returned, suspended, turned_next, unwound, with_rest};
 ghost use Rattle.seg_exec.specs.inner.steps.Views.{config_of, config_under};
 
 use crate::arithmetic::is_true;
@@ -16,9 +16,52 @@ use crate::steps::held::Held;
 use crate::steps::machine::{Machine, fault};
 use crate::steps::request::{Ending, Request};
 use twe_base::{Memory, Place};
-use twe_program::{Arm, Block, Stmt};
+use twe_program::{Arm, Block, Stmt, StmtKind};
+
+/// Whether a statement is a `return`.
+#[inline(always)]
+fn is_return(stmt: &Stmt) -> bool
+    ensures { result ≡ is_return stmt.now }
+{
+    match &stmt.kind {
+        StmtKind::Return(_) => true,
+        StmtKind::SetAt { second: None, .. } => false,
+        StmtKind::SetAt {
+            second: Some(_),
+            ..
+        } => false,
+        StmtKind::Block(_) => false,
+        StmtKind::Let { .. } => false,
+        StmtKind::Set { .. } => false,
+        StmtKind::SetCell { .. } => false,
+        StmtKind::If(_) => false,
+        StmtKind::While { .. } => false,
+        StmtKind::Print { .. } => false,
+        StmtKind::Call { .. } => false,
+        StmtKind::Make { .. } => false,
+        StmtKind::Wait { .. } => false,
+    }
+}
 
 impl<'a> Machine<'a> {
+    /// Schedules the statements of a block from the one at `at` on, below the statement before it. A `return` has none below it.
+    #[inline(always)]
+    pub(crate) fn push_rest(
+        &mut self,
+        before: &'a Stmt,
+        block: usize,
+        at: usize,
+        stmts: &'a [Stmt],
+    ) -> Result<(), Memory>
+        ensures { IfOk result (λ _. config_of self.new ≡
+            with_rest (is_return before.now) block at (statements_of (drop at stmts.now)) (config_of self.old)) }
+    {
+        if is_return(before) {
+            return Ok(());
+        }
+        self.push(Continuation::Rest { block, at, stmts })
+    }
+
     /// Schedules the statements of a block from the one at `at` on.
     pub(crate) fn rest(
         &mut self,
@@ -30,12 +73,9 @@ impl<'a> Machine<'a> {
             rested block at (statements_of (drop at stmts.now)) (config_of self.old)) }
     {
         if at < stmts.len() {
-            self.push(Continuation::Rest {
-                block,
-                at: at + 1,
-                stmts,
-            })?;
-            self.push(Continuation::Execute(&stmts[at]))?;
+            let stmt = &stmts[at];
+            self.push_rest(stmt, block, at + 1, stmts)?;
+            self.push(Continuation::Execute(stmt))?;
         }
         Ok(Request::Nothing)
     }

@@ -2,7 +2,7 @@
 ghost use Rattle.std.specs.Prelude.{◌≡◌, slice_set};
 ghost use Rattle.seg_exec.specs.Access.{ways_of};
 ghost use Rattle.seg_exec.specs.inner.steps.Bodies.{with_active};
-ghost use Rattle.seg_exec.specs.inner.strides.Assignments.{Does, MayDo, MayWriteAt, WritesAt, executing, to_element, to_target};
+ghost use Rattle.seg_exec.specs.inner.strides.Assignments.{Does, MayDo, MayWriteAt, Stays, WritesAt, executing, to_element, to_target};
 
 use crate::cells::Cells;
 use crate::elements::{cell_number, element_number};
@@ -153,6 +153,7 @@ pub(crate) fn assign<C: Cells>(
     ensures does { Does p.now (ways_of C.known C.may_read C.may_write C.rule)
         (executing stmt.now) vars.old.active cells.old result vars.new.active cells.new }
     ensures callers { vars.new.callers ≡ vars.old.callers }
+    ensures stays { Stays stmt.now result }
 {
     match &stmt.kind {
         StmtKind::Let { var, value } => set(Target::Var(*var), value, p, vars, cells),

@@ -12,14 +12,17 @@ use crate::cells::Cells;
 use crate::steps::continuation::{Continuation, OpenBlock};
 use crate::steps::machine::Machine;
 use crate::strides::choose::choose;
+use crate::strides::give::give;
 use crate::strides::onward::Onward;
 use crate::strides::pick::{Picked, pick};
+use crate::strides::plain::plain_return;
 use std::alloc::Global;
 use twe_base::{Ints, Memory};
 use twe_program::{Arm, Arms, Block, Prog, Stmt};
 
 /// Evaluates the conditions of arms of an `if`, as far as they call no method. Its branch comes next, and then the statements of
-/// the block around it, from the one at `at` on. If a condition calls a method, it makes only the first step of that condition.
+/// the block around it, from the one at `at` on. A branch that begins with a `return` is left at once, if the value calls no
+/// method. If a condition calls a method, it makes only the first step of that condition.
 #[inline(always)]
 fn branch_among<'a, C: Cells>(
     alloc: Global,
@@ -50,13 +53,19 @@ fn branch_among<'a, C: Cells>(
             Ok(Onward::Enter)
         }
         Picked::Body { number, body } => {
-            machine.push(Continuation::Rest { block, at, stmts })?;
-            machine.open = OpenBlock {
-                block: number,
-                at: 0,
-                stmts: body.stmts.as_slice(),
-            };
-            Ok(Onward::Enter)
+            let inner = body.stmts.as_slice();
+            match plain_return(inner) {
+                Some(value) => give(p, machine, cells, prints, value, block, at, stmts),
+                None => {
+                    machine.push(Continuation::Rest { block, at, stmts })?;
+                    machine.open = OpenBlock {
+                        block: number,
+                        at: 0,
+                        stmts: inner,
+                    };
+                    Ok(Onward::Enter)
+                }
+            }
         }
         Picked::Left(next) => {
             machine.push(Continuation::Rest { block, at, stmts })?;

@@ -16,7 +16,7 @@ use crate::strides::value::value_of;
 use twe_base::{Ints, Memory};
 use twe_program::{Expr, Prog, Stmt};
 
-/// Returns the value of an expression that calls no method, past the statements that follow in the block.
+/// Returns the value of an expression that calls no method, past the statements that follow in the block around the `return`.
 #[inline(always)]
 pub(crate) fn give<'a, C: Cells>(
     p: &'a Prog,

@@ -15,9 +15,7 @@ use crate::strides::branch::branch;
 use crate::strides::choose::{choose, choose_first};
 use crate::strides::evaluate::{evaluate, evaluate_then, right_of};
 use crate::strides::gather::{gather_more, take};
-use crate::strides::give::give;
 use crate::strides::onward::Onward;
-use crate::strides::plain::is_plain;
 use crate::strides::serve::{serve, use_value};
 use crate::strides::turn::turn;
 use std::alloc::Global;
@@ -122,15 +120,12 @@ fn begin_statement<'a, C: Cells>(
     ensures { IfOk result (MovesOn p.now C.known C.may_read C.may_write C.rule (Rest block at (statements_of (drop at stmts.now)))
         machine.old cells.old prints.old machine.new cells.new prints.new) }
 {
-    machine.push(Continuation::Rest {
-        block,
-        at: at + 1,
-        stmts,
-    })?;
-    begin_execution(alloc, p, machine, cells, prints, &stmts[at])
+    let stmt = &stmts[at];
+    machine.push_rest(stmt, block, at + 1, stmts)?;
+    begin_execution(alloc, p, machine, cells, prints, stmt)
 }
 
-/// Executes the next statement of a block: the branch of an `if` comes next, and a value that calls no method is returned.
+/// Executes the next statement of a block: the branch of an `if` comes next, and a `return` leaves nothing of the block to be done.
 #[inline(always)]
 fn enter_statement<'a, C: Cells>(
     alloc: Global,
@@ -154,11 +149,7 @@ fn enter_statement<'a, C: Cells>(
             branch(alloc, p, machine, cells, prints, arms, block, at + 1, stmts)
         }
         StmtKind::Return(Some(value)) => {
-            if is_plain(value) {
-                give(p, machine, cells, prints, value, block, at + 1, stmts)
-            } else {
-                begin_statement(alloc, p, block, at, stmts, machine, cells, prints)
-            }
+            evaluate_then(alloc, p, machine, cells, prints, value, &ValueUse::Unwind)
         }
         _ => begin_statement(alloc, p, block, at, stmts, machine, cells, prints),
     }

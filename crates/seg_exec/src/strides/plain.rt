@@ -1,8 +1,9 @@
-//! Expressions that call no method.
+//! Expressions that call no method, and blocks that return the value of one at once.
 ghost use Rattle.std.specs.Prelude.{◌≡◌, IfSome};
-ghost use Rattle.seg_exec.specs.inner.strides.Plainly.{is_plain};
+ghost use Rattle.twe_program.specs.Statement.{statements_of};
+ghost use Rattle.seg_exec.specs.inner.strides.Plainly.{ReturnsPlain, is_plain};
 
-use twe_program::{Expr, ExprKind};
+use twe_program::{Expr, ExprKind, Stmt, StmtKind};
 
 /// Whether an expression calls no method, if its kind alone says so: a leaf calls none, and a call does.
 #[inline(always)]
@@ -73,5 +74,20 @@ fn is_plain_inside(expr: &Expr) -> bool
         ExprKind::Neg(operand) => is_plain(operand),
         ExprKind::Not(operand) => is_plain(operand),
         ExprKind::Bin { left, right, .. } => is_plain(left) && is_plain(right),
+    }
+}
+
+/// The expression whose value a block returns at once, if there is one and it calls no method.
+#[inline(always)]
+pub(crate) fn plain_return<'a>(stmts: &'a [Stmt]) -> Option<&'a Expr>
+    ensures { IfSome result (λ value. ReturnsPlain (statements_of stmts.now) value.now) }
+{
+    if stmts.is_empty() {
+        return None;
+    }
+    let first = &stmts[0];
+    match &first.kind {
+        StmtKind::Return(Some(value)) => { if is_plain(value) { Some(value) } else { None } }
+        _ => None,
     }
 }

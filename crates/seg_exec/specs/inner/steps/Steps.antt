@@ -93,10 +93,25 @@ executed (Make point future task args spawned future_place place) c =
 executed (Wait point future join into place) c =
     asked_unit place c (λ c1. on (to_do (Suspend (operations.Wait future join into) []) c1))
 
+-- whether a statement is a return
+abbrev pub is_return : Statement → Bool
+is_return (Return point value) = true
+is_return _ = false
+
+-- what is to be done below the next statement of a block: the statements after it, or none of them if it is a return, as
+-- the first argument says
+abbrev pub rest_below : Bool → ℕ → ℕ → Statements → List Continuation → List Continuation
+rest_below true block at others work = work
+rest_below false block at others work = Rest block at others ∷ work
+
+-- the same in a configuration
+abbrev pub with_rest : Bool → ℕ → ℕ → Statements → Config → Config
+with_rest returning block at others c = record c { work = rest_below returning block at others c.work }
+
 -- the step at what is left of a block: its next statement, with the rest below it
 abbrev pub rested : ℕ → ℕ → Statements → Config → Step
 rested block at no_more c = on c
-rested block at (statement first others) c = on (to_do (Execute first) (to_do (Rest block (at + 1) others) c))
+rested block at (statement first others) c = on (to_do (Execute first) (with_rest (is_return first) block (at + 1) others c))
 
 -- the step at the arms of an `if`: the condition of the next arm is evaluated, or the `else` is executed
 abbrev pub choosing : ℕ → Arms → Config → Step

@@ -1,5 +1,5 @@
 -- Assignments that are carried out at once, whatever else is to be done.
-use Rattle.std.specs.Prelude.{◌≡◌, ℕ, ℤ, List, ◌∷◌, Option, None, Some}
+use Rattle.std.specs.Prelude.{◌≡◌, false, ℕ, ℤ, List, ◌∷◌, Option, None, Some}
 use Rattle.twe_base.specs.declared.place.Place.{Place}
 use Rattle.twe_program.specs.Program.{Program}
 use Rattle.twe_program.specs.Expression.{Expression}
@@ -12,6 +12,7 @@ use Rattle.seg_exec.specs.declared.strides.assign.Target.{Target}
 use Rattle.seg_exec.specs.declared.strides.assign.Target.TheVariants.{Var, Cell}
 use Rattle.seg_exec.specs.Access.{HasWritten, Ways}
 use Rattle.seg_exec.specs.inner.steps.Continuations.{Continuation, Evaluate, Execute, GiveVar, GiveCell, GiveElement}
+use Rattle.seg_exec.specs.inner.steps.Steps.{is_return}
 use Rattle.seg_exec.specs.inner.strides.Strides.{Ends, Goes, MayGo, fault_ending, stand}
 
 -- on top of the other frames: a statement is to be executed
@@ -52,6 +53,12 @@ Does p ways tasks vars old (Faulted fault) vars' new =
     → Ends p ways (stand (tasks work) operands vars fuel calls old prints) (fault_ending fault)
     (stand work operands vars' fuel calls new prints)
 Does p ways tasks vars old Left vars' new = (vars' ≡ vars) × (new ≡ old)
+
+-- a statement that is done is no return
+abbrev pub Stays : Statement → Carried → Type 0
+Stays s Done = is_return s ≡ false
+Stays s (Faulted fault) = Unit {0}
+Stays s Left = Unit {0}
 
 -- the implementation allows the write of an element, if there is such an element
 abbrev pub MayWriteAt : {C : Type 0} → Ways C → C → Option ℕ → Type 0

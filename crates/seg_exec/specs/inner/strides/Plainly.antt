@@ -1,6 +1,7 @@
--- Expressions that call no method.
-use Rattle.std.specs.Prelude.{Bool, true, false, ◌&&◌}
+-- Expressions that call no method, and blocks that return the value of one at once.
+use Rattle.std.specs.Prelude.{◌≡◌, ℕ, Bool, true, false, ◌&&◌, Some}
 use Rattle.twe_program.specs.Expression.{Expression, Literal, Truth, Variable, CellValue, ArrayElement, GridElement, CallValue, Negative, Negation, Binary}
+use Rattle.twe_program.specs.Statement.{Return, Statements, statement}
 
 -- whether an expression calls no method
 abbrev pub is_plain : Expression → Bool
@@ -14,3 +15,8 @@ is_plain (CallValue method args place) = false
 is_plain (Negative operand) = is_plain operand
 is_plain (Negation operand) = is_plain operand
 is_plain (Binary op left right place) = is_plain left && is_plain right
+
+-- these statements begin with the return of the value of this expression, which calls no method
+abbrev pub ReturnsPlain : Statements → Expression → Type 0
+ReturnsPlain stmts e =
+    (is_plain e ≡ true) × (point : ℕ) × (others : Statements) × (stmts ≡ statement (Return point (Some e)) others)

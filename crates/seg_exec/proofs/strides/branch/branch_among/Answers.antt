@@ -8,9 +8,9 @@ use Rattle.seg_exec.specs.inner.steps.Reached.{standing}
 use Rattle.seg_exec.specs.inner.steps.Views.{config_of}
 use Rattle.seg_exec.specs.inner.strides.Strides.{Goes, doing}
 use Rattle.seg_exec.specs.inner.strides.Moving.{course}
-use Rattle.seg_exec.proofs.strides.Branching.{arms_left, before, body_picked, fault_picked, nothing_picked, picks_at}
-use Rattle.seg_exec.proofs.strides.Moving.{near_moves}
-use Rattle.seg_exec.proofs.strides.Strides.{may_near}
+use Rattle.seg_exec.proofs.strides.Branching.{arms_left, before, body_picked, fault_picked, nothing_picked, picks_at, value_picked}
+use Rattle.seg_exec.proofs.strides.Moving.{near_moves, then_moves}
+use Rattle.seg_exec.proofs.strides.Strides.{may_near, may_then}
 use Rattle.seg_exec.proofs.Segments.{if_ok_map}
 use Rattle.seg_exec.proofs.strides.branch.branch_among.Goals as goal
 
@@ -39,16 +39,16 @@ returns-in-Nothing g c =
     nothing_picked c.args.p.now ways c.args.arms.now c.args.last.now rest old c.args.cells.now c.pick.new.cells c.args.prints.now
     (picks_at c.args.p.now ways c.args.arms.now c.args.last.now rest c.as_slice.result.now old.vars c.args.cells.now c.pick.new.cells Nothing c.as_slice.ensures c.in-Nothing.ensures)
 
-pub returns-in_ok-push-in-Body : goal.returns-in_ok-push-in-Body
-returns-in_ok-push-in-Body g c =
+pub returns-in_ok-push-in-None : goal.returns-in_ok-push-in-None
+returns-in_ok-push-in-None g c =
     let ways = ways_of g.C.Cells.known g.C.Cells.may_read g.C.Cells.may_write g.C.Cells.rule in
     let old = config_of c.args.machine.now in
     let rest = Rest c.args.block c.args.at (statements_of (drop c.args.at c.args.stmts.now)) in
-    let is : c.in-Body.body.now ≡ statements_of (drop 0 c.as_slice-in-Body.result.now) = search rules in
+    let is : c.in-Body.body.now ≡ statements_of (drop 0 c.as_slice-inner.result.now) = search rules in
     subst (λ (stmts : Statements). Goes c.args.p.now (ways_of g.C.Cells.known g.C.Cells.may_read g.C.Cells.may_write g.C.Cells.rule)
     (before c.args.p.now (ways_of g.C.Cells.known g.C.Cells.may_read g.C.Cells.may_write g.C.Cells.rule) c.args.arms.now c.args.last.now (Rest c.args.block c.args.at (statements_of (drop c.args.at c.args.stmts.now))) (config_of c.args.machine.now) c.args.cells.now c.args.prints.now)
     (doing (Rest c.in-Body.number 0 stmts) (standing c.push.new.self c.pick.new.cells c.args.prints.now))) is
-    (body_picked c.args.p.now ways c.args.arms.now c.args.last.now rest old c.args.cells.now c.pick.new.cells c.args.prints.now c.in-Body.number c.in-Body.body.now (config_of c.push.new.self) c.in_ok-push-in-Body.ensures
+    (body_picked c.args.p.now ways c.args.arms.now c.args.last.now rest old c.args.cells.now c.pick.new.cells c.args.prints.now c.in-Body.number c.in-Body.body.now (config_of c.push.new.self) c.in_ok-push-in-None.ensures
     (picks_at c.args.p.now ways c.args.arms.now c.args.last.now rest c.as_slice.result.now old.vars c.args.cells.now c.pick.new.cells (Body c.in-Body.number c.in-Body.body) c.as_slice.ensures c.in-Body.ensures))
 
 pub returns-in_ok-push-in-Left : goal.returns-in_ok-push-in-Left
@@ -62,3 +62,28 @@ returns-in_ok-push-in-Left g c =
     if_ok_map c.choose.result (λ onward moves. near_moves c.args.p.now (ways_of g.C.Cells.known g.C.Cells.may_read g.C.Cells.may_write g.C.Cells.rule) from mid after (course onward c.choose.new.machine)
     (arms_left c.args.p.now ways c.args.arms.now c.args.last.now rest old c.args.cells.now c.pick.new.cells c.args.prints.now c.in-Left.next (config_of c.push-in-Left.new.self) c.in_ok-push-in-Left.ensures
     (picks_at c.args.p.now ways c.args.arms.now c.args.last.now rest c.as_slice.result.now old.vars c.args.cells.now c.pick.new.cells (Left c.in-Left.next) c.as_slice.ensures c.in-Left.ensures)) moves) c.choose.ensures
+
+pub give-requires-clause-plain : goal.give-requires-clause-plain
+give-requires-clause-plain g c = let returned = c.in-Some.ensures in returned.0
+
+pub give-requires-clause-may : goal.give-requires-clause-may
+give-requires-clause-may g c =
+    let ways = ways_of g.C.Cells.known g.C.Cells.may_read g.C.Cells.may_write g.C.Cells.rule in
+    let old = config_of c.args.machine.now in
+    let rest = Rest c.args.block c.args.at (statements_of (drop c.args.at c.args.stmts.now)) in
+    let is : c.in-Body.body.now ≡ statements_of c.as_slice-inner.result.now = search rules in
+    may_then c.args.p.now ways _ _ c.requires
+    (value_picked c.args.p.now ways c.args.arms.now c.args.last.now rest old c.args.cells.now c.pick.new.cells c.args.prints.now c.in-Body.number c.in-Body.body.now (statements_of c.as_slice-inner.result.now) c.in-Some.value.now is c.in-Some.ensures
+    (picks_at c.args.p.now ways c.args.arms.now c.args.last.now rest c.as_slice.result.now old.vars c.args.cells.now c.pick.new.cells (Body c.in-Body.number c.in-Body.body) c.as_slice.ensures c.in-Body.ensures))
+
+pub returns-in-Some : goal.returns-in-Some
+returns-in-Some g c =
+    let ways = ways_of g.C.Cells.known g.C.Cells.may_read g.C.Cells.may_write g.C.Cells.rule in
+    let old = config_of c.args.machine.now in
+    let rest = Rest c.args.block c.args.at (statements_of (drop c.args.at c.args.stmts.now)) in
+    let is : c.in-Body.body.now ≡ statements_of c.as_slice-inner.result.now = search rules in
+    let from = before c.args.p.now ways c.args.arms.now c.args.last.now rest old c.args.cells.now c.args.prints.now in
+    let after = standing c.give.new.machine c.give.new.cells c.give.new.prints in
+    if_ok_map c.give.result (λ onward moves. then_moves c.args.p.now ways from _ after (course onward c.give.new.machine)
+    (value_picked c.args.p.now ways c.args.arms.now c.args.last.now rest old c.args.cells.now c.pick.new.cells c.args.prints.now c.in-Body.number c.in-Body.body.now (statements_of c.as_slice-inner.result.now) c.in-Some.value.now is c.in-Some.ensures
+    (picks_at c.args.p.now ways c.args.arms.now c.args.last.now rest c.as_slice.result.now old.vars c.args.cells.now c.pick.new.cells (Body c.in-Body.number c.in-Body.body) c.as_slice.ensures c.in-Body.ensures)) moves) c.give.ensures

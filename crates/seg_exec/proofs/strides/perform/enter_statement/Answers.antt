@@ -1,10 +1,10 @@
-use Rattle.std.proofs.Common.{◌≡◌, Some, ap, rules, sym, ◌∙◌}
+use Rattle.std.proofs.Common.{◌≡◌, true, false, Some, ap, rules, sym, ◌∙◌}
 use Rattle.twe_program.specs.Statement.{Return, Statement}
 use Rattle.twe_program.specs.inner.StatementView.{statement_of}
 use Rattle.seg_exec.specs.Access.{ways_of}
 use Rattle.seg_exec.specs.inner.steps.Continuations.{Choose, Config, Evaluate, Unwind, to_do}
 use Rattle.seg_exec.specs.inner.steps.Reached.{standing}
-use Rattle.seg_exec.specs.inner.steps.Steps.{executed}
+use Rattle.seg_exec.specs.inner.steps.Steps.{executed, is_return}
 use Rattle.seg_exec.specs.inner.steps.Views.{config_of}
 use Rattle.seg_exec.specs.inner.strides.Moving.{course}
 use Rattle.seg_exec.proofs.strides.GoingOn.{into, next_is, rest_at}
@@ -18,16 +18,16 @@ branch-alloc-requires g c =
     let ways = ways_of g.C.Cells.known g.C.Cells.may_read g.C.Cells.may_write g.C.Cells.rule in
     let is = next_is c.args.stmts.now c.args.at c.index-stmts-at.result c.requires.within c.index-stmts-at.is in
     may_then c.args.p.now ways _ _ c.requires.may
-    (into c.args.p.now ways c.args.block c.args.at c.args.stmts.now c.index-stmts-at.result is (to_do (Choose 0 c.in-If.arms))
+    (into c.args.p.now ways c.args.block c.args.at c.args.stmts.now c.index-stmts-at.result is false (ap is_return (sym c.stmt.view_is ∙ ap (λ kind. statement_of c.stmt.inside.point kind) c.in-If.is)) (to_do (Choose 0 c.in-If.arms))
     (λ (config : Config). ap (λ (s : Statement). executed s config) (sym c.stmt.view_is ∙ ap (λ kind. statement_of c.stmt.inside.point kind) c.in-If.is)) (config_of c.args.machine.now) c.args.cells.now c.args.prints.now)
 
-pub give-requires-clause-may : goal.give-requires-clause-may
-give-requires-clause-may g c =
+pub evaluate_then-requires : goal.evaluate_then-requires
+evaluate_then-requires g c =
     let ways = ways_of g.C.Cells.known g.C.Cells.may_read g.C.Cells.may_write g.C.Cells.rule in
     let is = next_is c.args.stmts.now c.args.at c.index-stmts-at.result c.requires.within c.index-stmts-at.is in
     let shape : c.index-stmts-at.result ≡ Return c.stmt.inside.point (Some c.in-Return-Some.value) = search rules in
     may_then c.args.p.now ways _ _ c.requires.may
-    (into c.args.p.now ways c.args.block c.args.at c.args.stmts.now c.index-stmts-at.result is (λ config. to_do (Evaluate c.in-Return-Some.value) (to_do Unwind config))
+    (into c.args.p.now ways c.args.block c.args.at c.args.stmts.now c.index-stmts-at.result is true (ap is_return shape) (λ config. to_do (Evaluate c.in-Return-Some.value) (to_do Unwind config))
     (λ (config : Config). ap (λ (s : Statement). executed s config) shape) (config_of c.args.machine.now) c.args.cells.now c.args.prints.now)
 
 pub returns-in-If : goal.returns-in-If
@@ -37,16 +37,16 @@ returns-in-If g c =
     let from = rest_at c.args.block c.args.at c.args.stmts.now (standing c.args.machine.now c.args.cells.now c.args.prints.now) in
     let new = standing c.branch-alloc.new.machine c.branch-alloc.new.cells c.branch-alloc.new.prints in
     if_ok_map c.branch-alloc.result (λ onward rest. then_moves c.args.p.now (ways_of g.C.Cells.known g.C.Cells.may_read g.C.Cells.may_write g.C.Cells.rule) from _ new (course onward c.branch-alloc.new.machine)
-    (into c.args.p.now ways c.args.block c.args.at c.args.stmts.now c.index-stmts-at.result is (to_do (Choose 0 c.in-If.arms))
+    (into c.args.p.now ways c.args.block c.args.at c.args.stmts.now c.index-stmts-at.result is false (ap is_return (sym c.stmt.view_is ∙ ap (λ kind. statement_of c.stmt.inside.point kind) c.in-If.is)) (to_do (Choose 0 c.in-If.arms))
     (λ (config : Config). ap (λ (s : Statement). executed s config) (sym c.stmt.view_is ∙ ap (λ kind. statement_of c.stmt.inside.point kind) c.in-If.is)) (config_of c.args.machine.now) c.args.cells.now c.args.prints.now) rest) c.branch-alloc.ensures
 
-pub returns-then-is_plain : goal.returns-then-is_plain
-returns-then-is_plain g c =
+pub returns-in-Return-Some : goal.returns-in-Return-Some
+returns-in-Return-Some g c =
     let ways = ways_of g.C.Cells.known g.C.Cells.may_read g.C.Cells.may_write g.C.Cells.rule in
     let is = next_is c.args.stmts.now c.args.at c.index-stmts-at.result c.requires.within c.index-stmts-at.is in
     let shape : c.index-stmts-at.result ≡ Return c.stmt.inside.point (Some c.in-Return-Some.value) = search rules in
     let from = rest_at c.args.block c.args.at c.args.stmts.now (standing c.args.machine.now c.args.cells.now c.args.prints.now) in
-    let new = standing c.give.new.machine c.give.new.cells c.give.new.prints in
-    if_ok_map c.give.result (λ onward rest. then_moves c.args.p.now (ways_of g.C.Cells.known g.C.Cells.may_read g.C.Cells.may_write g.C.Cells.rule) from _ new (course onward c.give.new.machine)
-    (into c.args.p.now ways c.args.block c.args.at c.args.stmts.now c.index-stmts-at.result is (λ config. to_do (Evaluate c.in-Return-Some.value) (to_do Unwind config))
-    (λ (config : Config). ap (λ (s : Statement). executed s config) shape) (config_of c.args.machine.now) c.args.cells.now c.args.prints.now) rest) c.give.ensures
+    let new = standing c.evaluate_then.new.machine c.evaluate_then.new.cells c.evaluate_then.new.prints in
+    if_ok_map c.evaluate_then.result (λ onward rest. then_moves c.args.p.now (ways_of g.C.Cells.known g.C.Cells.may_read g.C.Cells.may_write g.C.Cells.rule) from _ new (course onward c.evaluate_then.new.machine)
+    (into c.args.p.now ways c.args.block c.args.at c.args.stmts.now c.index-stmts-at.result is true (ap is_return shape) (λ config. to_do (Evaluate c.in-Return-Some.value) (to_do Unwind config))
+    (λ (config : Config). ap (λ (s : Statement). executed s config) shape) (config_of c.args.machine.now) c.args.cells.now c.args.prints.now) rest) c.evaluate_then.ensures

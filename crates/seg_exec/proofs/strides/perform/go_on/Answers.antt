@@ -33,7 +33,7 @@ loop-next-preserved g c =
     let is = next_is c.args.stmts.now c.loop-next.next c.index-stmts-next.result c.loop-next-test.true c.index-stmts-next.is in
     with_its_vars c.args.p.now ways c.args.block (c.loop-next.next + 1) c.args.stmts.now from c.loop-next.machine c.assign.new.vars c.assign.new.cells c.loop-next.prints c.assign.ensures.callers
     (nears_more c.args.p.now ways from now after c.loop-next.invariant
-    (done_first c.args.p.now ways c.args.block c.loop-next.next c.args.stmts.now c.index-stmts-next.result is (config_of c.loop-next.machine) c.assign.new.vars.active c.loop-next.cells c.assign.new.cells c.loop-next.prints c.in-Done.ensures.does))
+    (done_first c.args.p.now ways c.args.block c.loop-next.next c.args.stmts.now c.index-stmts-next.result is c.in-Done.ensures.stays (config_of c.loop-next.machine) c.assign.new.vars.active c.loop-next.cells c.assign.new.cells c.loop-next.prints c.in-Done.ensures.does))
 
 pub returns-in-Faulted : goal.returns-in-Faulted
 returns-in-Faulted g c =
