@@ -125,7 +125,7 @@ fn begin_statement<'a, C: Cells>(
     begin_execution(alloc, p, machine, cells, prints, stmt)
 }
 
-/// Executes the next statement of a block: the branch of an `if` comes next, and a `return` leaves nothing of the block to be done.
+/// Executes the next statement of a block: the branch of an `if` comes next, and below a `return` nothing of the block is kept.
 #[inline(always)]
 fn enter_statement<'a, C: Cells>(
     alloc: Global,
