@@ -12,6 +12,8 @@ pub mod Evaluating
 pub mod Assigning
 -- Statements, arguments and the arms of an `if`, one after another.
 pub mod GoingOn
+pub mod Carrying
+pub mod Turning
 pub mod Gathering
 pub mod Picking
 pub mod Branching

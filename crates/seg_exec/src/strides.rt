@@ -1,9 +1,11 @@
 //! Strides: several steps of the machine at once. What calls no method is evaluated or assigned at once, by recursion over the
-//! expression, and with the same accesses in the same order as the steps make. A branch and a turn of a loop come next without a
-//! frame of their own. All else is done by a step of the machine.
+//! expression, and with the same accesses in the same order as the steps make. The turns of a loop are made in place as long as
+//! its body has only such assignments. A branch and a turn of another loop come next without a frame of their own. All else is
+//! done by a step of the machine.
 
 mod assign;
 mod branch;
+mod carry;
 mod choose;
 mod evaluate;
 mod gather;

@@ -1,5 +1,5 @@
 -- The statements of a block one after another.
-use Rattle.std.proofs.Common.{◌≡◌, ℕ, suc, ℤ, ◌+◌, ◌<◌, List, [], ◌∷◌, drop, length, get_or, Bool, false, refl, sym, ap, ◌∙◌, subst, arith}
+use Rattle.std.proofs.Common.{◌≡◌, ℕ, suc, ℤ, ◌+◌, ◌<◌, List, [], ◌∷◌, drop, length, get_or, Bool, false, refl, sym, ap, ◌∙◌, arith}
 use Rattle.std.proofs.Math.Seq.{drop-cons}
 use Rattle.twe_program.specs.Program.{Program}
 use Rattle.twe_program.specs.Statement.{Statement, statements_of}
@@ -8,13 +8,9 @@ use Rattle.seg_exec.specs.declared.strides.value.Fault.{Fault}
 use Rattle.seg_exec.specs.Access.{Ways}
 use Rattle.seg_exec.specs.inner.strides.Assignments.{Does, MayDo, executing}
 use Rattle.seg_exec.specs.inner.steps.Continuations.{Config, Execute, Rest, to_do}
-use Rattle.seg_exec.specs.declared.steps.machine.Machine.{Machine}
-use Rattle.seg_exec.specs.inner.steps.Bodies.{Bodies}
-use Rattle.seg_exec.specs.inner.steps.Reached.{Standing, standing}
-use Rattle.seg_exec.specs.inner.steps.Views.{config_of}
+use Rattle.seg_exec.specs.inner.steps.Reached.{Standing}
 use Rattle.seg_exec.specs.inner.steps.Steps.{executed, is_return, on, rest_below, rested, with_rest}
-use Rattle.seg_exec.specs.inner.strides.Strides.{Ends, Goes, MayGo, Nears, doing, fault_ending}
-use Rattle.seg_exec.proofs.steps.Callers.{with_others}
+use Rattle.seg_exec.specs.inner.strides.Strides.{Ends, Goes, MayGo, doing, fault_ending}
 use Rattle.seg_exec.proofs.strides.Performing.{placed}
 use Rattle.seg_exec.proofs.strides.Strides.{ends_alike, may_then, silent, then_ends, then_goes}
 
@@ -76,16 +72,3 @@ module _ {C : Type 0} (p : Program) (ways : Ways C) (block at : ℕ) (stmts : Li
         let under = rest_below (is_return s) block (at + 1) (statements_of (drop (at + 1) stmts)) config.work in
         ends_alike p ways _ (fault_ending fault) under config.work config.operands config.operands vars config.fuel config.calls new prints
         (then_ends p ways _ _ _ _ (first (is_return s) refl config old prints) (h under config.operands config.fuel config.calls prints))
-
-  -- nothing has changed
-  pub left_first : (from : Standing C) (config : Config) (vars : List ℤ) (old new : C) (prints : List ℤ) → (vars ≡ config.vars) × (new ≡ old)
-      → Nears p ways from (rest_at block at stmts (placed config old prints)) → Nears p ways from (rest_at block at stmts (placed (with_vars vars config) new prints))
-  left_first from config vars old new prints same h =
-      subst (λ (vs : List ℤ). Nears p ways from (rest_at block at stmts (placed (with_vars vs config) new prints))) (sym same.0)
-      (subst (λ (c : C). Nears p ways from (rest_at block at stmts (placed config c prints))) (sym same.1) h)
-
-  -- the same of a machine whose active body has other variables
-  pub with_its_vars : (from : Standing C) (m : Machine) (b : Bodies) (cells : C) (prints : List ℤ) → b.callers ≡ m.vars.callers
-      → Nears p ways from (rest_at block at stmts (placed (with_vars b.active (config_of m)) cells prints)) → Nears p ways from (rest_at block at stmts (standing (record m { vars = b }) cells prints))
-  with_its_vars from m b cells prints same h =
-      subst (λ (c : Config). Nears p ways from (rest_at block at stmts (placed c cells prints))) (sym (with_others m b same)) h

@@ -10,8 +10,8 @@ ghost use Rattle.seg_exec.specs.Access.{ways_of};
 use crate::cells::Cells;
 use crate::steps::continuation::{Continuation, Gathering, ValueUse};
 use crate::steps::machine::Machine;
-use crate::strides::assign::{Carried, assign};
 use crate::strides::branch::branch;
+use crate::strides::carry::{CarriedOut, carry_out};
 use crate::strides::choose::{choose, choose_first};
 use crate::strides::evaluate::{evaluate, evaluate_then, right_of};
 use crate::strides::gather::{gather_more, take};
@@ -172,20 +172,16 @@ pub(crate) fn go_on<'a, C: Cells>(
     ensures { IfOk result (MovesOn p.now C.known C.may_read C.may_write C.rule (Rest block at (statements_of (drop at stmts.now)))
         machine.old cells.old prints.old machine.new cells.new prints.new) }
 {
-    let mut next = at;
-    while next < stmts.len() {
-        match assign(&stmts[next], p, &mut machine.vars, cells) {
-            Carried::Done => next += 1,
-            Carried::Faulted(fault) => {
-                machine.ending = Some(fault.ending());
-                return Ok(Onward::End);
-            }
-            Carried::Left => {
-                return enter_statement(alloc, p, machine, cells, prints, block, next, stmts);
-            }
+    match carry_out(stmts, at, p, &mut machine.vars, cells) {
+        CarriedOut::Done => Ok(Onward::Below),
+        CarriedOut::Faulted(fault) => {
+            machine.ending = Some(fault.ending());
+            Ok(Onward::End)
+        }
+        CarriedOut::Left(next) => {
+            enter_statement(alloc, p, machine, cells, prints, block, next, stmts)
         }
     }
-    Ok(Onward::Below)
 }
 
 /// Does what a continuation frame is for, in one step or in several. Returns what comes next.

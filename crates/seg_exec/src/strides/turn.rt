@@ -1,13 +1,11 @@
 //! The turns of a loop.
-ghost use Rattle.std.specs.Prelude.{◌≡◌, IfOk};
+ghost use Rattle.std.specs.Prelude.{◌≡◌, true, IfOk};
 ghost use Rattle.seg_exec.specs.Access.{ways_of};
-ghost use Rattle.seg_exec.specs.Arithmetic.{is_true};
-ghost use Rattle.seg_exec.specs.inner.steps.Continuations.{Evaluate, Turn};
 ghost use Rattle.seg_exec.specs.inner.steps.Reached.{standing};
-ghost use Rattle.seg_exec.specs.inner.steps.Steps.{turned_by};
-ghost use Rattle.seg_exec.specs.inner.steps.Views.{config_of};
-ghost use Rattle.seg_exec.specs.inner.strides.Moving.{Moves, step_on, course};
-ghost use Rattle.seg_exec.specs.inner.strides.Strides.{MayGo, doing};
+ghost use Rattle.seg_exec.specs.inner.strides.Moving.{Moves, course};
+ghost use Rattle.seg_exec.specs.inner.strides.Plainly.{is_plain};
+ghost use Rattle.seg_exec.specs.inner.strides.Strides.{MayGo};
+ghost use Rattle.seg_exec.specs.inner.strides.Turning.{IsLoop, Turns, looping};
 
 use crate::arithmetic::is_true;
 use crate::cells::Cells;
@@ -15,6 +13,7 @@ use crate::fault::FaultCause;
 use crate::steps::continuation::{Continuation, OpenBlock, ValueUse};
 use crate::steps::machine::Machine;
 use crate::steps::request::Ending;
+use crate::strides::carry::{CarriedOut, carry_out};
 use crate::strides::evaluate::evaluate_then;
 use crate::strides::onward::Onward;
 use crate::strides::plain::is_plain;
@@ -23,41 +22,69 @@ use std::alloc::Global;
 use twe_base::{Ints, Memory, Place};
 use twe_program::{Block, Expr, Prog, Stmt};
 
-/// Begins a turn of a loop if the value of its condition is true. A turn takes a unit of fuel; it is a fault if none is left.
+/// Evaluates the condition of a loop, and begins a turn if it is true. A turn takes a unit of fuel; it is a fault if none is
+/// left. The assignments that the body begins with are carried out. Returns what comes next, or `None` if the whole body is done,
+/// so that the condition comes next again.
 #[inline(always)]
-fn begin_turn<'a>(
+fn make_turn<'a, C: Cells>(
+    p: &'a Prog,
     machine: &mut Machine<'a>,
-    value: i32,
+    cells: &mut C,
+    prints: &mut Ints,
     again: &'a Stmt,
+    condition: &'a Expr,
     body: &'a Block,
     place: Place,
-) -> Result<Onward, Memory>
-    ensures { IfOk result (λ onward. step_on (course onward machine.new) (config_of machine.new)
-        ≡ turned_by (is_true value) again.now body.now place (config_of machine.old)) }
+) -> Result<Option<Onward>, Memory>
+    requires plain { is_plain condition.now ≡ true }
+    requires again { IsLoop again.now condition.now body.now place }
+    requires may { MayGo p.now (ways_of C.known C.may_read C.may_write C.rule)
+        (looping condition.now again.now body.now place (standing machine.old cells.old prints.old)) }
+    ensures { IfOk result (Turns p.now (ways_of C.known C.may_read C.may_write C.rule)
+        (looping condition.now again.now body.now place) machine.old cells.old prints.old machine.new cells.new prints.new) }
 {
-    if !is_true(value) {
-        return Ok(Onward::Below);
+    match value_of(condition, p, machine.vars.as_slice(), cells) {
+        Err(fault) => {
+            machine.ending = Some(fault.ending());
+            return Ok(Some(Onward::End));
+        }
+        Ok(value) => {
+            if !is_true(value) {
+                return Ok(Some(Onward::Below));
+            }
+        }
     }
     if machine.fuel == 0 {
         machine.ending = Some(Ending::Faulted {
             cause: FaultCause::Fuel,
             place,
         });
-        return Ok(Onward::End);
+        return Ok(Some(Onward::End));
     }
     machine.fuel -= 1;
-    machine.push(Continuation::Execute(again))?;
-    machine.open = OpenBlock {
-        block: 0,
-        at: 0,
-        stmts: body.stmts.as_slice(),
-    };
-    Ok(Onward::Enter)
+    let stmts = body.stmts.as_slice();
+    match carry_out(stmts, 0, p, &mut machine.vars, cells) {
+        CarriedOut::Done => Ok(None),
+        CarriedOut::Faulted(fault) => {
+            machine.ending = Some(fault.ending());
+            Ok(Some(Onward::End))
+        }
+        CarriedOut::Left(at) => {
+            machine.push(Continuation::Execute(again))?;
+            machine.open = OpenBlock {
+                block: 0,
+                at,
+                stmts,
+            };
+            Ok(Some(Onward::Enter))
+        }
+    }
 }
 
-/// Evaluates the condition of a loop, and begins a turn if it is true. If the condition calls a method, it makes only the first
-/// step.
-#[inline(always)]
+/// Evaluates the condition of a loop and makes its turns, up to one whose body has other statements than assignments that call no
+/// method. If the condition calls a method, it makes only the first step. It stands apart, so that what is inlined for other
+/// statements stays small.
+#[inline(never)]
 pub(crate) fn turn<'a, C: Cells>(
     alloc: Global,
     p: &'a Prog,
@@ -69,21 +96,21 @@ pub(crate) fn turn<'a, C: Cells>(
     body: &'a Block,
     place: Place,
 ) -> Result<Onward, Memory>
-    requires { MayGo p.now (ways_of C.known C.may_read C.may_write C.rule)
-        (doing (Evaluate condition.now) (doing (Turn again.now body.now place) (standing machine.old cells.old prints.old))) }
+    requires again { IsLoop again.now condition.now body.now place }
+    requires may { MayGo p.now (ways_of C.known C.may_read C.may_write C.rule)
+        (looping condition.now again.now body.now place (standing machine.old cells.old prints.old)) }
     ensures { IfOk result (λ onward. Moves p.now (ways_of C.known C.may_read C.may_write C.rule)
-        (doing (Evaluate condition.now) (doing (Turn again.now body.now place) (standing machine.old cells.old prints.old)))
+        (looping condition.now again.now body.now place (standing machine.old cells.old prints.old))
         (course onward machine.new) (standing machine.new cells.new prints.new)) }
 {
     if !is_plain(condition) {
         let then = ValueUse::Turn { again, body, place };
         return evaluate_then(alloc, p, machine, cells, prints, condition, &then);
     }
-    match value_of(condition, p, machine.vars.as_slice(), cells) {
-        Err(fault) => {
-            machine.ending = Some(fault.ending());
-            Ok(Onward::End)
+    'turns: loop {
+        let next = make_turn(p, machine, cells, prints, again, condition, body, place)?;
+        if let Some(onward) = next {
+            return Ok(onward);
         }
-        Ok(value) => begin_turn(machine, value, again, body, place),
     }
 }

@@ -12,8 +12,12 @@ use Rattle.seg_exec.proofs.strides.Performing.{may_silent}
 use Rattle.seg_exec.proofs.Segments.{if_ok_map}
 use Rattle.seg_exec.proofs.strides.perform.begin_execution.Goals as goal
 
-pub turn-requires : goal.turn-requires
-turn-requires g c = may_silent c.args.p.now (ways_of g.C.Cells.known g.C.Cells.may_read g.C.Cells.may_write g.C.Cells.rule) (Execute c.args.stmt.now) (config_of c.args.machine.now) (to_do (Evaluate c.in-While.condition) (to_do (Turn c.args.stmt.now c.in-While.body c.in-While.place) (config_of c.args.machine.now))) c.args.cells.now c.args.prints.now ((ap (λ (s : Statement). executed s (config_of c.args.machine.now)) (sym c.stmt.view_is ∙ ap (λ kind. statement_of c.stmt.inside.point kind) c.in-While.is)) ∙ ap (λ (s : Statement). on (to_do (Evaluate c.in-While.condition) (to_do (Turn s c.in-While.body c.in-While.place) (config_of c.args.machine.now)))) (sym (sym c.stmt.view_is ∙ ap (λ kind. statement_of c.stmt.inside.point kind) c.in-While.is))) c.requires
+pub turn-requires-clause-again : goal.turn-requires-clause-again
+turn-requires-clause-again g c config =
+    (ap (λ (s : Statement). executed s config) (sym c.stmt.view_is ∙ ap (λ kind. statement_of c.stmt.inside.point kind) c.in-While.is)) ∙ ap (λ (s : Statement). on (to_do (Evaluate c.in-While.condition) (to_do (Turn s c.in-While.body c.in-While.place) config))) (sym (sym c.stmt.view_is ∙ ap (λ kind. statement_of c.stmt.inside.point kind) c.in-While.is))
+
+pub turn-requires-clause-may : goal.turn-requires-clause-may
+turn-requires-clause-may g c = may_silent c.args.p.now (ways_of g.C.Cells.known g.C.Cells.may_read g.C.Cells.may_write g.C.Cells.rule) (Execute c.args.stmt.now) (config_of c.args.machine.now) (to_do (Evaluate c.in-While.condition) (to_do (Turn c.args.stmt.now c.in-While.body c.in-While.place) (config_of c.args.machine.now))) c.args.cells.now c.args.prints.now ((ap (λ (s : Statement). executed s (config_of c.args.machine.now)) (sym c.stmt.view_is ∙ ap (λ kind. statement_of c.stmt.inside.point kind) c.in-While.is)) ∙ ap (λ (s : Statement). on (to_do (Evaluate c.in-While.condition) (to_do (Turn s c.in-While.body c.in-While.place) (config_of c.args.machine.now)))) (sym (sym c.stmt.view_is ∙ ap (λ kind. statement_of c.stmt.inside.point kind) c.in-While.is))) c.requires
 
 pub returns-in-While : goal.returns-in-While
 returns-in-While g c =
