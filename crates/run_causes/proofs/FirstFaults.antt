@@ -18,7 +18,7 @@ use Rattle.twe_machine.specs.Moves.{move_result, result_by_kind, start_of}
 use Rattle.twe_machine.specs.Runs.{IsReached, Legal, LegalFrom, entry_of, is_fault, replayed, state_after}
 use Rattle.twe_machine.proofs.replays.Replayed.{run_more}
 use Rattle.twe_machine.proofs.tasks.LeftAlone.{moves_leave_alone}
-use Rattle.run_causes.specs.FaultScenes.{faulty_entry}
+use Rattle.run_causes.specs.FaultSnapshots.{faulty_entry}
 use Rattle.run_causes.proofs.Beginnings.{begins_legal}
 
 -- a first fault stays the first, and an end without one adds none

@@ -6,5 +6,5 @@ pub mod Clashing
 pub mod Found
 -- The first entry of a journal that met a fault.
 pub mod FirstFaults
--- The scene of a segment that ends with a fault.
-pub mod ScenesThere
+-- The snapshot of a segment that ends with a fault.
+pub mod SnapshotsThere

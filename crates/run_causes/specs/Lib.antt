@@ -2,4 +2,4 @@ pub mod LastBegun
 pub mod Makings
 pub mod Clashes
 pub mod NextMoves
-pub mod FaultScenes
+pub mod FaultSnapshots

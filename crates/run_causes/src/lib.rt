@@ -5,13 +5,13 @@
 #![tactic(auto)]
 
 mod clashes;
-mod fault_scenes;
+mod fault_snapshots;
 mod last_begun;
 mod legal_moves;
 mod making;
 
 pub use clashes::{effects_of_task, first_clashing};
-pub use fault_scenes::scene_of_fault;
+pub use fault_snapshots::snapshot_of_fault;
 pub use last_begun::stands_at;
 pub use legal_moves::next_moves;
 pub use making::{Making, making_of, makings_of, place_of};

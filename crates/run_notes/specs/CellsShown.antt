@@ -2,7 +2,7 @@
 use Rattle.std.specs.Prelude.{ℕ, ◌-◌, ◌++◌, Bool, ℤ, List, [], ◌∷◌, Option, None, Some, codes, decimal, drop, if◌then◌else◌, length, map, nat_lt, take}
 use Rattle.twe_program.specs.declared.program.CellDecl.{CellDecl}
 use Rattle.twe_program.specs.Program.{size_of}
-use Rattle.seg_exec.specs.declared.scene.FaultScene.{FaultScene}
+use Rattle.seg_exec.specs.declared.snapshot.FaultSnapshot.{FaultSnapshot}
 use Rattle.run_texts.specs.TaskLabels.{listed_args}
 
 -- how many values of a declaration are shown at most
@@ -38,7 +38,7 @@ cells_left_out count = if nat_lt most_cells count then cells_left_out_text (coun
 abbrev pub cells_shown : List ℤ → List CellDecl → List (List ℕ)
 cells_shown values cells = map (cell_shown values) (take most_cells cells) ++ cells_left_out (length cells)
 
--- the same of a scene, if there is one
-abbrev pub scene_cells_shown : Option FaultScene → List CellDecl → List (List ℕ)
-scene_cells_shown None cells = []
-scene_cells_shown (Some scene) cells = cells_shown scene.cells cells
+-- the same of a snapshot, if there is one
+abbrev pub snapshot_cells_shown : Option FaultSnapshot → List CellDecl → List (List ℕ)
+snapshot_cells_shown None cells = []
+snapshot_cells_shown (Some snapshot) cells = cells_shown snapshot.cells cells

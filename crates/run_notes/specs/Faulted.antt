@@ -12,7 +12,7 @@ use Rattle.twe_program.specs.declared.program.Dims.TheVariants.{Scalar, Row, Gri
 use Rattle.twe_program.specs.Program.{Program}
 use Rattle.seg_exec.specs.declared.fault.FaultCause.{FaultCause}
 use Rattle.seg_exec.specs.declared.fault.FaultCause.TheVariants.{Index, GridIndex}
-use Rattle.seg_exec.specs.declared.scene.FaultScene.{FaultScene}
+use Rattle.seg_exec.specs.declared.snapshot.FaultSnapshot.{FaultSnapshot}
 use Rattle.twe_machine.specs.declared.state.FirstFault.{FirstFault}
 use Rattle.twe_machine.specs.declared.state.State.{State}
 use Rattle.run_causes.specs.declared.making.Making.{Making}
@@ -22,9 +22,9 @@ use Rattle.place_notes.specs.declared.note.Note.{Note}
 use Rattle.place_notes.specs.WordAt.{word_at}
 use Rattle.place_notes.specs.Notes.{note_at}
 use Rattle.run_notes.specs.CallsShown.{call_notes, calls_left_out, runs_of}
-use Rattle.run_notes.specs.CellsShown.{scene_cells_shown}
+use Rattle.run_notes.specs.CellsShown.{snapshot_cells_shown}
 use Rattle.run_notes.specs.TaskTexts.{task_shown}
-use Rattle.run_notes.specs.VariablesShown.{scene_remarks}
+use Rattle.run_notes.specs.VariablesShown.{snapshot_remarks}
 use Rattle.run_notes.specs.declared.calls_shown.CallRun.{CallRun}
 
 -- what is wrong
@@ -82,10 +82,10 @@ index_words (Some (GridIndex row column)) =
     codes "the row is " ++ (signed_decimal row ++ (codes " and the column is " ++ (signed_decimal column ++ codes "; ")))
 index_words _ = []
 
--- the same in a scene, if there is one
-abbrev pub index_words_in : Option FaultScene → List ℕ
+-- the same in a snapshot, if there is one
+abbrev pub index_words_in : Option FaultSnapshot → List ℕ
 index_words_in None = []
-index_words_in (Some scene) = index_words scene.cause
+index_words_in (Some snapshot) = index_words snapshot.cause
 
 -- the bound that was met; for an index, the one of the array whose name this is
 abbrev pub fault_remark : Bounds → List CellDecl → List ℕ → FaultKind → List ℕ
@@ -114,10 +114,10 @@ made_notes p st (Some making) = notes_if making.place (made_caption p st making)
 abbrev pub fault_caption : Program → State → ℕ → List ℕ
 fault_caption p st task = task_shown p st task ++ codes " meets the fault here"
 
--- the calls that were active in a scene
-abbrev pub runs_of_scene : Option FaultScene → List CallRun
-runs_of_scene None = []
-runs_of_scene (Some scene) = runs_of scene.calls
+-- the calls that were active in a snapshot
+abbrev pub runs_of_snapshot : Option FaultSnapshot → List CallRun
+runs_of_snapshot None = []
+runs_of_snapshot (Some snapshot) = runs_of snapshot.calls
 
 -- where the fault was met, the calls that were active, from the inside outwards, and where its task was made
 abbrev pub fault_notes : Program → State → List Making → List CallRun → ℕ → Place → List Note
@@ -126,18 +126,18 @@ fault_notes p st makings runs task place =
 
 -- what is said beside the places: the index that led to it and the bound that was met, what the variables in scope held, and
 -- what the cells held
-abbrev pub fault_remarks : List ℕ → List Item → Program → Bounds → State → Option FaultScene → FirstFault → List (List ℕ)
-fault_remarks text items p lim st scene fault =
-    (index_words_in scene ++ fault_remark lim p.cells (word_at text fault.place) fault.kind)
-    ∷ (calls_left_out (runs_of_scene scene)
-    ++ (scene_remarks p (slice_get st.tasks fault.task) items fault.place scene ++ scene_cells_shown scene p.cells))
+abbrev pub fault_remarks : List ℕ → List Item → Program → Bounds → State → Option FaultSnapshot → FirstFault → List (List ℕ)
+fault_remarks text items p lim st snapshot fault =
+    (index_words_in snapshot ++ fault_remark lim p.cells (word_at text fault.place) fault.kind)
+    ∷ (calls_left_out (runs_of_snapshot snapshot)
+    ++ (snapshot_remarks p (slice_get st.tasks fault.task) items fault.place snapshot ++ snapshot_cells_shown snapshot p.cells))
 
--- what is said of a fault with this scene in a run of this text under these limits, which has come to this state; the
+-- what is said of a fault with this snapshot in a run of this text under these limits, which has come to this state; the
 -- declarations are those of the text
 abbrev pub fault_explanation
-    : List ℕ → List Item → Program → Bounds → State → List Making → Option FaultScene → FirstFault → Explanation
-fault_explanation text items p lim st makings scene fault = record {
+    : List ℕ → List Item → Program → Bounds → State → List Making → Option FaultSnapshot → FirstFault → Explanation
+fault_explanation text items p lim st makings snapshot fault = record {
   headline = fault_headline fault.kind;
-  notes = fault_notes p st makings (runs_of_scene scene) fault.task fault.place;
-  remarks = fault_remarks text items p lim st scene fault;
+  notes = fault_notes p st makings (runs_of_snapshot snapshot) fault.task fault.place;
+  remarks = fault_remarks text items p lim st snapshot fault;
 }

@@ -8,7 +8,7 @@ use Rattle.seg_journal.specs.declared.moves.Move.{Move}
 use Rattle.seg_journal.specs.Lines.{IsFirstBadLine}
 use Rattle.seg_journal.specs.Spelling.{Spells, head_lines}
 use Rattle.twe_program.specs.Program.{Program}
-use Rattle.seg_exec.specs.declared.scene.FaultScene.{FaultScene}
+use Rattle.seg_exec.specs.declared.snapshot.FaultSnapshot.{FaultSnapshot}
 use Rattle.twe_machine.specs.declared.ending.Outcome.TheVariants as outcomes
 use Rattle.twe_machine.specs.declared.legal.Why.{Why}
 use Rattle.twe_machine.specs.declared.state.FirstFault.{FirstFault}
@@ -16,7 +16,7 @@ use Rattle.twe_machine.specs.declared.state.State.{State}
 use Rattle.twe_machine.specs.Replays.{IsReplay}
 use Rattle.twe_machine.specs.Runs.{IsOutcome}
 use Rattle.flat_sched.specs.Stuck.{IsCycleOfReasons, IsStuckCycle}
-use Rattle.run_causes.specs.FaultScenes.{IsFaultScene}
+use Rattle.run_causes.specs.FaultSnapshots.{IsFaultSnapshot}
 use Rattle.run_causes.specs.Makings.{makings_of}
 use Rattle.run_causes.specs.NextMoves.{AreNextMoves}
 use Rattle.twe_report.specs.Texts.{fault_text, not_a_move_text, not_legal_text, result_text, stuck_text, unfinished_text}
@@ -40,11 +40,11 @@ pub data RunTold (wanted : Wanted) (text : List ℕ) (p : Program) (lim : Bounds
   -- all tasks are done, and there is the result
   done : IsOutcome st outcomes.AllDone → RunTold wanted text p lim journal st (on_out Done (result_text p st))
   -- a task has met a fault, which is explained: what was there when it was met, by the names that the text has
-  faulted : (fault : FirstFault) (scene : Option FaultScene) (tree : Option Ast)
-      → IsOutcome st (outcomes.Fault fault.task fault.kind fault.place) → IsFaultScene p lim journal fault scene
+  faulted : (fault : FirstFault) (snapshot : Option FaultSnapshot) (tree : Option Ast)
+      → IsOutcome st (outcomes.Fault fault.task fault.kind fault.place) → IsFaultSnapshot p lim journal fault snapshot
       → IsTreeIfAny text tree
       → RunTold wanted text p lim journal st (on_out Fault (run_text wanted text (fault_text fault.task fault.kind fault.place)
-      (fault_explanation text (items_of tree) p lim st (makings_of p lim journal) scene fault)))
+      (fault_explanation text (items_of tree) p lim st (makings_of p lim journal) snapshot fault)))
   -- the run is stuck in this cycle, which is explained
   stuck : (cycle : List Edge) → IsOutcome st outcomes.Stuck → IsStuckCycle st cycle → IsCycleOfReasons st cycle
       → RunTold wanted text p lim journal st (on_out Stuck (run_text wanted text (stuck_text cycle)

@@ -9,7 +9,7 @@ use Rattle.twe_program.specs.declared.program.Decl.{Decl}
 use Rattle.twe_program.specs.Program.{Program}
 use Rattle.seg_exec.specs.Arithmetic.{is_true}
 use Rattle.seg_exec.specs.declared.active.ActiveCall.{ActiveCall}
-use Rattle.seg_exec.specs.declared.scene.FaultScene.{FaultScene}
+use Rattle.seg_exec.specs.declared.snapshot.FaultSnapshot.{FaultSnapshot}
 use Rattle.twe_machine.specs.declared.state.TaskRow.{TaskRow}
 use Rattle.run_notes.specs.BodyVariables.{body_variables_at}
 use Rattle.run_notes.specs.declared.body_variables.BodyVariable.{BodyVariable}
@@ -86,8 +86,8 @@ abbrev pub items_of : Option Ast → List Item
 items_of None = []
 items_of (Some tree) = tree.items
 
--- what the variables in scope hold at a fault of a task of this row at the place, whose scene this is
-abbrev pub scene_remarks : Program → Option TaskRow → List Item → Place → Option FaultScene → List (List ℕ)
-scene_remarks p row items place None = []
-scene_remarks p row items place (Some scene) =
-    at_fault_remarks (variables_shown (variables_of_decl items place (active_decl p row scene.calls)) scene.vars)
+-- what the variables in scope hold at a fault of a task of this row at the place, whose snapshot this is
+abbrev pub snapshot_remarks : Program → Option TaskRow → List Item → Place → Option FaultSnapshot → List (List ℕ)
+snapshot_remarks p row items place None = []
+snapshot_remarks p row items place (Some snapshot) =
+    at_fault_remarks (variables_shown (variables_of_decl items place (active_decl p row snapshot.calls)) snapshot.vars)

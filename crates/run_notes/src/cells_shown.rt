@@ -1,10 +1,10 @@
 //! What the cells held at a fault.
 ghost use Rattle.std.specs.Prelude.{◌≡◌, ◌++◌, ◌∷◌, [], drop, take, IfOk, OnOk, length, map};
-ghost use Rattle.run_notes.specs.CellsShown.{cell_shown, cells_shown, cells_left_out, cells_left_out_text, listed_values, most_cells, scene_cells_shown, values_of};
+ghost use Rattle.run_notes.specs.CellsShown.{cell_shown, cells_shown, cells_left_out, cells_left_out_text, listed_values, most_cells, snapshot_cells_shown, values_of};
 
 use itoa::Buffer;
 use run_texts::push_listed_args;
-use seg_exec::FaultScene;
+use seg_exec::FaultSnapshot;
 use std::alloc::Global;
 use twe_base::{Bytes, List, Memory};
 use twe_program::CellDecl;
@@ -125,17 +125,17 @@ fn push_cells_shown(
     push_cells_left_out(remarks, alloc, cells.len())
 }
 
-/// Adds what the cells held in a scene, if there is one.
-pub(crate) fn push_scene_cells_shown(
+/// Adds what the cells held in a snapshot, if there is one.
+pub(crate) fn push_snapshot_cells_shown(
     remarks: &mut List<Bytes>,
     alloc: Global,
-    scene: &Option<FaultScene>,
+    snapshot: &Option<FaultSnapshot>,
     cells: &[CellDecl],
 ) -> Result<(), Memory>
-    ensures { OnOk result (remarks.new ≡ remarks.old ++ scene_cells_shown scene.now cells.now) }
+    ensures { OnOk result (remarks.new ≡ remarks.old ++ snapshot_cells_shown snapshot.now cells.now) }
 {
-    match scene {
+    match snapshot {
         None => Ok(()),
-        Some(scene) => push_cells_shown(remarks, alloc, scene.cells.as_slice(), cells),
+        Some(snapshot) => push_cells_shown(remarks, alloc, snapshot.cells.as_slice(), cells),
     }
 }

@@ -1,15 +1,15 @@
 //! What is said of a fault.
 ghost use Rattle.std.specs.Prelude.{◌≡◌, ◌∷◌, ◌++◌, [], IfOk, OnOk};
-ghost use Rattle.run_notes.specs.Faulted.{bounds_found, bounds_text, dims_named, fault_caption, fault_explanation, fault_headline, fault_notes, fault_remark, fault_remarks, index_words, index_words_in, runs_of_scene, task_fuel_text, any_bound, grid_bounds, made_caption, made_notes, notes_if, row_bound, task_limit_text};
+ghost use Rattle.run_notes.specs.Faulted.{bounds_found, bounds_text, dims_named, fault_caption, fault_explanation, fault_headline, fault_notes, fault_remark, fault_remarks, index_words, index_words_in, runs_of_snapshot, task_fuel_text, any_bound, grid_bounds, made_caption, made_notes, notes_if, row_bound, task_limit_text};
 
 use crate::calls_shown::{CallRun, push_call_notes, push_calls_left_out, runs_of};
-use crate::cells_shown::push_scene_cells_shown;
+use crate::cells_shown::push_snapshot_cells_shown;
 use crate::task_texts::push_task;
-use crate::variables_shown::push_scene_remarks;
+use crate::variables_shown::push_snapshot_remarks;
 use itoa::Buffer;
 use place_notes::{Explanation, Note, word_at};
 use run_causes::{Making, making_of};
-use seg_exec::{FaultCause, FaultScene};
+use seg_exec::{FaultCause, FaultSnapshot};
 use seg_journal::Limits;
 use std::alloc::Global;
 use twe_ast::Item;
@@ -163,29 +163,29 @@ fn push_index_words(text: &mut Bytes, cause: Option<FaultCause>) -> Result<(), M
     }
 }
 
-/// The index, or the row and the column, that led to a fault with this scene, as words before those on its bound.
-fn index_words_in(alloc: Global, scene: &Option<FaultScene>) -> Result<Bytes, Memory>
-    ensures { IfOk result (λ text. text ≡ index_words_in scene.now) }
+/// The index, or the row and the column, that led to a fault with this snapshot, as words before those on its bound.
+fn index_words_in(alloc: Global, snapshot: &Option<FaultSnapshot>) -> Result<Bytes, Memory>
+    ensures { IfOk result (λ text. text ≡ index_words_in snapshot.now) }
 {
     let mut text = Bytes::new(alloc);
-    if let Some(scene) = scene {
-        push_index_words(&mut text, scene.cause)?;
+    if let Some(snapshot) = snapshot {
+        push_index_words(&mut text, snapshot.cause)?;
     }
     Ok(text)
 }
 
-/// The index that led to a fault with this scene, and the bound that was met.
+/// The index that led to a fault with this snapshot, and the bound that was met.
 fn cause_remark(
     alloc: Global,
     lim: Limits,
     cells: &[CellDecl],
     word: &[u8],
     kind: FaultKind,
-    scene: &Option<FaultScene>,
+    snapshot: &Option<FaultSnapshot>,
 ) -> Result<Bytes, Memory>
-    ensures { IfOk result (λ text. text ≡ index_words_in scene.now ++ fault_remark lim cells.now word.now kind) }
+    ensures { IfOk result (λ text. text ≡ index_words_in snapshot.now ++ fault_remark lim cells.now word.now kind) }
 {
-    let mut text = index_words_in(alloc, scene)?;
+    let mut text = index_words_in(alloc, snapshot)?;
     let bound = fault_remark(alloc, lim, cells, word, kind)?;
     text.push_all(bound.as_slice())?;
     Ok(text)
@@ -242,13 +242,16 @@ fn fault_caption(alloc: Global, p: &Prog, st: &State, task: u32) -> Result<Bytes
     Ok(text)
 }
 
-/// The calls that were active in a scene.
-fn runs_of_scene(alloc: Global, scene: &Option<FaultScene>) -> Result<List<CallRun>, Memory>
-    ensures { IfOk result (λ runs. runs ≡ runs_of_scene scene.now) }
+/// The calls that were active in a snapshot.
+fn runs_of_snapshot(
+    alloc: Global,
+    snapshot: &Option<FaultSnapshot>,
+) -> Result<List<CallRun>, Memory>
+    ensures { IfOk result (λ runs. runs ≡ runs_of_snapshot snapshot.now) }
 {
-    match scene {
+    match snapshot {
         None => Ok(List::new(alloc)),
-        Some(scene) => runs_of(alloc, scene.calls.as_slice()),
+        Some(snapshot) => runs_of(alloc, snapshot.calls.as_slice()),
     }
 }
 
@@ -291,25 +294,25 @@ fn fault_remarks(
     p: &Prog,
     lim: Limits,
     st: &State,
-    scene: &Option<FaultScene>,
+    snapshot: &Option<FaultSnapshot>,
     runs: &[CallRun],
     fault: FirstFault,
 ) -> Result<List<Bytes>, Memory>
-    requires { runs.now ≡ runs_of_scene scene.now }
-    ensures { IfOk result (λ remarks. remarks ≡ fault_remarks text.now items.now p.now lim st.now scene.now fault) }
+    requires { runs.now ≡ runs_of_snapshot snapshot.now }
+    ensures { IfOk result (λ remarks. remarks ≡ fault_remarks text.now items.now p.now lim st.now snapshot.now fault) }
 {
     let word = word_at(text, fault.place);
     let cells = p.cells.as_slice();
-    let remark = cause_remark(alloc, lim, cells, word, fault.kind, scene)?;
+    let remark = cause_remark(alloc, lim, cells, word, fault.kind, snapshot)?;
     let mut remarks = one_remark(alloc, remark)?;
     push_calls_left_out(&mut remarks, alloc, runs)?;
     let row = st.tasks.get(fault.task as usize);
-    push_scene_remarks(&mut remarks, alloc, p, row, items, fault.place, scene)?;
-    push_scene_cells_shown(&mut remarks, alloc, scene, cells)?;
+    push_snapshot_remarks(&mut remarks, alloc, p, row, items, fault.place, snapshot)?;
+    push_snapshot_cells_shown(&mut remarks, alloc, snapshot, cells)?;
     Ok(remarks)
 }
 
-/// What is said of a fault with this scene in a run of this text under these limits, which has come to this state. The
+/// What is said of a fault with this snapshot in a run of this text under these limits, which has come to this state. The
 /// declarations are those of the text.
 pub(crate) fn fault_explanation(
     alloc: Global,
@@ -319,16 +322,16 @@ pub(crate) fn fault_explanation(
     lim: Limits,
     st: &State,
     makings: &[Making],
-    scene: &Option<FaultScene>,
+    snapshot: &Option<FaultSnapshot>,
     fault: FirstFault,
 ) -> Result<Explanation, Memory>
-    ensures { IfOk result (λ e. e ≡ fault_explanation text.now items.now p.now lim st.now makings.now scene.now fault) }
+    ensures { IfOk result (λ e. e ≡ fault_explanation text.now items.now p.now lim st.now makings.now snapshot.now fault) }
 {
-    let found = runs_of_scene(alloc, scene)?;
+    let found = runs_of_snapshot(alloc, snapshot)?;
     let runs = found.as_slice();
     Ok(Explanation {
         headline: Bytes::from_slice(alloc, fault_headline(fault.kind))?,
         notes: fault_notes(alloc, p, st, makings, runs, fault.task, fault.place)?,
-        remarks: fault_remarks(alloc, text, items, p, lim, st, scene, runs, fault)?,
+        remarks: fault_remarks(alloc, text, items, p, lim, st, snapshot, runs, fault)?,
     })
 }

@@ -20,7 +20,7 @@ use crate::trees::tree_if_any;
 use crate::variables_shown::items_of;
 use explain_pages::{Wanted, text_of_run};
 use flat_sched::stuck_cycle;
-use run_causes::{makings_of, next_moves, scene_of_fault};
+use run_causes::{makings_of, next_moves, snapshot_of_fault};
 use seg_journal::{Journal, JournalFail, JournalText, Limits, Move, read_journal};
 use std::alloc::Global;
 use twe_base::Memory;
@@ -177,11 +177,11 @@ fn answer_fault(
     ensures { IfOk result (RunTold wanted.now text.now p.now lim journal.now st.now) }
 {
     let makings = makings_of(alloc, p, lim, journal.as_slice())?;
-    let scene = scene_of_fault(alloc, p, lim, journal.as_slice(), fault)?;
+    let snapshot = snapshot_of_fault(alloc, p, lim, journal.as_slice(), fault)?;
     let tree = tree_if_any(alloc, text)?;
     let items = items_of(&tree);
     let known = makings.as_slice();
-    let said = fault_explanation(alloc, text, items, p, lim, st, known, &scene, fault)?;
+    let said = fault_explanation(alloc, text, items, p, lim, st, known, &snapshot, fault)?;
     let line = fault_text(alloc, fault.task, fault.kind, fault.place)?;
     let page = text_of_run(alloc, wanted, text, line, &said)?;
     Ok(Answer::on_out(alloc, Status::Fault, page))

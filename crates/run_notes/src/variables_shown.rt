@@ -1,11 +1,11 @@
 //! The values of the variables that were in scope at a fault.
 ghost use Rattle.std.specs.Prelude.{◌≡◌, ◌-◌, ◌++◌, IfOk, OnOk, drop, length, option_copied};
 ghost use Rattle.seg_exec.specs.Arithmetic.{is_true};
-ghost use Rattle.run_notes.specs.VariablesShown.{active_decl, at_fault_remarks, at_fault_text, decl_of_row, items_of, later_texts, listed_texts, more_words, most_variables, scene_remarks, shown_in_scope, truth_text, variable_shown, variable_value, variables_of_decl, variables_shown};
+ghost use Rattle.run_notes.specs.VariablesShown.{active_decl, at_fault_remarks, at_fault_text, decl_of_row, items_of, later_texts, listed_texts, more_words, most_variables, snapshot_remarks, shown_in_scope, truth_text, variable_shown, variable_value, variables_of_decl, variables_shown};
 
 use crate::body_variables::{BodyVariable, body_variables_at};
 use itoa::Buffer;
-use seg_exec::{ActiveCall, FaultScene};
+use seg_exec::{ActiveCall, FaultSnapshot};
 use std::alloc::Global;
 use twe_ast::{Ast, Item};
 use twe_base::{Bytes, List, Memory, Place};
@@ -193,41 +193,41 @@ pub(crate) fn items_of(tree: &Option<Ast>) -> &[Item]
     }
 }
 
-/// What the variables in scope hold in a scene, at a fault of a task of this row at the place.
-fn scene_texts(
+/// What the variables in scope hold in a snapshot, at a fault of a task of this row at the place.
+fn snapshot_texts(
     alloc: Global,
     p: &Prog,
     row: Option<&TaskRow>,
     items: &[Item],
     place: Place,
-    scene: &FaultScene,
+    snapshot: &FaultSnapshot,
 ) -> Result<List<Bytes>, Memory>
     ensures { IfOk result (λ texts. texts ≡ variables_shown
-        (variables_of_decl items.now place (active_decl p.now (option_copied row.entry) scene.now.calls)) scene.now.vars) }
+        (variables_of_decl items.now place (active_decl p.now (option_copied row.entry) snapshot.now.calls)) snapshot.now.vars) }
 {
-    let decl = active_decl(p, row, scene.calls.as_slice());
+    let decl = active_decl(p, row, snapshot.calls.as_slice());
     let variables = variables_of_decl(alloc, items, place, decl)?;
-    let texts = variables_shown(alloc, variables.as_slice(), scene.vars.as_slice())?;
+    let texts = variables_shown(alloc, variables.as_slice(), snapshot.vars.as_slice())?;
     Ok(texts)
 }
 
 /// Adds what the variables in scope hold at a fault of a task of this row at the place.
-pub(crate) fn push_scene_remarks(
+pub(crate) fn push_snapshot_remarks(
     remarks: &mut List<Bytes>,
     alloc: Global,
     p: &Prog,
     row: Option<&TaskRow>,
     items: &[Item],
     place: Place,
-    scene: &Option<FaultScene>,
+    snapshot: &Option<FaultSnapshot>,
 ) -> Result<(), Memory>
     ensures { OnOk result (remarks.new ≡ remarks.old
-        ++ scene_remarks p.now (option_copied row.entry) items.now place scene.now) }
+        ++ snapshot_remarks p.now (option_copied row.entry) items.now place snapshot.now) }
 {
-    match scene {
+    match snapshot {
         None => Ok(()),
-        Some(scene) => {
-            let texts = scene_texts(alloc, p, row, items, place, scene)?;
+        Some(snapshot) => {
+            let texts = snapshot_texts(alloc, p, row, items, place, snapshot)?;
             push_at_fault(remarks, alloc, texts.as_slice())
         }
     }

@@ -4,6 +4,6 @@ pub mod Determined
 pub mod PlainLists
 pub mod Remains
 pub mod Rooms
-pub mod Scenes
+pub mod SnapshotsMet
 pub mod Segments
 pub mod Without

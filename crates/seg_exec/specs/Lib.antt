@@ -8,7 +8,7 @@ pub mod Giving
 pub mod Meaning
 pub mod Plain
 pub mod Remaining
-pub mod Scene
+pub mod Snapshots
 pub mod Segment
 pub mod Store
 pub mod inner

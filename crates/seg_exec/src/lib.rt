@@ -18,8 +18,8 @@ mod frame;
 mod give;
 mod laws;
 mod operation;
-mod scene;
 mod segment;
+mod snapshot;
 mod steps;
 mod stop;
 mod strides;
@@ -35,6 +35,6 @@ pub use laws::{
     larger_bounds_change_nothing, over_a_list_it_is_the_segment,
 };
 pub use operation::Operation;
-pub use scene::{FaultScene, fault_scene};
 pub use segment::{run_segment, run_segment_over_list};
+pub use snapshot::{FaultSnapshot, fault_snapshot};
 pub use stop::Stop;

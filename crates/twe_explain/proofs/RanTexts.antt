@@ -23,7 +23,7 @@ use Rattle.twe_explain.specs.Runs.{RunDue}
 pub outcome_of : (wanted : Wanted) (text : List ℕ) (p : Program) (lim : Bounds) (journal : List Entry) (st : State) (answer : Answer)
     → RunTold wanted text p lim journal st answer → (outcome : Outcome) × IsOutcome st outcome
 outcome_of wanted text p lim journal st answer (RunTold.done is) = (AllDone, is)
-outcome_of wanted text p lim journal st answer (RunTold.faulted fault scene tree is met parsed) = (Fault fault.task fault.kind fault.place, is)
+outcome_of wanted text p lim journal st answer (RunTold.faulted fault snapshot tree is met parsed) = (Fault fault.task fault.kind fault.place, is)
 outcome_of wanted text p lim journal st answer (RunTold.stuck cycle is exact reasons) = (Stuck, is)
 outcome_of wanted text p lim journal st answer (RunTold.unfinished moves is next) = (Unfinished, is)
 

@@ -1,7 +1,7 @@
 use Rattle.std.proofs.Common.{◌≡◌, None, false, take}
 use Rattle.std.specs.List.{All}
 use Rattle.twe_machine.specs.Runs.{is_fault, state_after}
-use Rattle.run_causes.proofs.fault_scenes.scene_of_fault.Given as goal
+use Rattle.run_causes.proofs.fault_snapshots.snapshot_of_fault.Given as goal
 
 -- the entries up to here were taken again, and met no fault
 abbrev pub invariant-loop-entry : goal.invariant-loop-entry

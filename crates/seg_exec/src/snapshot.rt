@@ -1,9 +1,9 @@
 //! How a segment met its fault: what was there at that moment.
 ghost use Rattle.std.specs.Prelude.{◌≡◌, IfOk, length};
 ghost use Rattle.twe_program.specs.Program.{cell_count};
-ghost use Rattle.seg_exec.specs.Scene.{scene_of};
+ghost use Rattle.seg_exec.specs.Snapshots.{snapshot_of};
 ghost use Rattle.seg_exec.specs.Segment.{flow_of};
-ghost use Rattle.seg_exec.specs.inner.Faulting.{scene_at};
+ghost use Rattle.seg_exec.specs.inner.Faulting.{snapshot_at};
 ghost use Rattle.seg_exec.specs.inner.steps.Calls.{calls_of};
 
 use crate::active::ActiveCall;
@@ -19,7 +19,7 @@ use twe_program::Prog;
 
 /// What was there when a segment met its fault.
 #[derive(Debug, Drop)]
-pub struct FaultScene {
+pub struct FaultSnapshot {
     /// What led to the fault; none at a task too many, for which a segment stops before it is refused.
     pub cause: Option<FaultCause>,
     /// The values of the parameters and locals of the active body.
@@ -31,16 +31,17 @@ pub struct FaultScene {
 }
 
 /// What is there at the end of a run, if it is a fault.
-fn scene_at(
+fn snapshot_at(
     alloc: Global,
     machine: Machine<'_>,
     cells: Ints,
     ending: &Ending,
-) -> Result<Option<FaultScene>, Memory>
-    ensures { IfOk result (λ scene. scene ≡ scene_at ending.now machine.entry.vars.active (calls_of machine.entry.work) cells) }
+) -> Result<Option<FaultSnapshot>, Memory>
+    ensures { IfOk result (λ snapshot. snapshot
+        ≡ snapshot_at ending.now machine.entry.vars.active (calls_of machine.entry.work) cells) }
 {
     match ending {
-        Ending::Faulted { cause, .. } => Ok(Some(FaultScene {
+        Ending::Faulted { cause, .. } => Ok(Some(FaultSnapshot {
             cause: Some(*cause),
             vars: machine.vars.into_active(alloc)?,
             calls: machine.work.into_calls(alloc)?,
@@ -53,14 +54,14 @@ fn scene_at(
 
 /// Executes one segment of a task over a copy of the cells, and returns what was there when it met a fault; none if it meets
 /// none. What it prints is dropped.
-pub fn fault_scene(
+pub fn fault_snapshot(
     alloc: Global,
     p: &Prog,
     frame: &Frame,
     cells: &Ints,
-) -> Result<Option<FaultScene>, Memory>
+) -> Result<Option<FaultSnapshot>, Memory>
     requires { length cells.now ≡ cell_count p.now }
-    ensures { IfOk result (λ scene. scene ≡ scene_of (flow_of p.now frame.now frame.now.body cells.now)) }
+    ensures { IfOk result (λ snapshot. snapshot ≡ snapshot_of (flow_of p.now frame.now frame.now.body cells.now)) }
 {
     let _main = p.main;
     let Some(mut machine) = machine_at(alloc, p, frame)? else {
@@ -69,5 +70,5 @@ pub fn fault_scene(
     let mut cells = cells.copy(alloc)?;
     let mut prints = Ints::new(alloc);
     let ending = run(alloc, p, &mut machine, &mut cells, &mut prints)?;
-    scene_at(alloc, machine, cells, &ending)
+    snapshot_at(alloc, machine, cells, &ending)
 }

@@ -13,8 +13,8 @@ use Rattle.seg_exec.specs.declared.frame.Frame.{Frame}
 use Rattle.seg_exec.specs.declared.frame.OpenBody.{OpenBody}
 use Rattle.seg_exec.specs.Segment.{flow_of, segment}
 use Rattle.seg_exec.specs.Causes.{fault_kind}
-use Rattle.seg_exec.specs.Scene.{scene_of}
-use Rattle.seg_exec.specs.declared.scene.FaultScene.{FaultScene}
+use Rattle.seg_exec.specs.Snapshots.{snapshot_of}
+use Rattle.seg_exec.specs.declared.snapshot.FaultSnapshot.{FaultSnapshot}
 use Rattle.twe_machine.specs.declared.state.FirstFault.{FirstFault}
 use Rattle.twe_machine.specs.declared.state.State.{State}
 use Rattle.twe_machine.specs.declared.state.TaskRow.{TaskRow}
@@ -27,39 +27,40 @@ faulty_entry fault = record { mv = record { kind = Run; task = fault.task }; end
 
 -- what is there at a task too many, which is refused between two segments of a task whose body is open: its variables; no
 -- method is active then
-abbrev pub scene_between : List ℤ → Option OpenBody → Option FaultScene
-scene_between cells None = None
-scene_between cells (Some body) = Some (record { cause = None; vars = body.vars; calls = []; cells = cells })
+abbrev pub snapshot_between : List ℤ → Option OpenBody → Option FaultSnapshot
+snapshot_between cells None = None
+snapshot_between cells (Some body) = Some (record { cause = None; vars = body.vars; calls = []; cells = cells })
 
--- the scene of a fault of this kind that the segment of this frame ends with: a task too many is refused after the segment has
+-- the snapshot of a fault of this kind that the segment of this frame ends with: a task too many is refused after the segment has
 -- stopped at its make, and any other fault is met within the segment
-abbrev pub scene_by_kind : Program → Frame → List ℤ → FaultKind → Option FaultScene
-scene_by_kind p frame cells TaskLimit = let left = segment p frame cells in scene_between left.cells left.frame.body
-scene_by_kind p frame cells _ = scene_of (flow_of p frame frame.body cells)
+abbrev pub snapshot_by_kind : Program → Frame → List ℤ → FaultKind → Option FaultSnapshot
+snapshot_by_kind p frame cells TaskLimit = let left = segment p frame cells in snapshot_between left.cells left.frame.body
+snapshot_by_kind p frame cells _ = snapshot_of (flow_of p frame frame.body cells)
 
--- the scene of a fault of this kind that a task of this row meets in its next segment from this state, if it meets one
-abbrev pub scene_ahead : Program → State → FaultKind → Option TaskRow → Option FaultScene
-scene_ahead p st kind None = None
-scene_ahead p st kind (Some row) = scene_by_kind p (ready_frame st.tasks row.frame) st.cells kind
+-- the snapshot of a fault of this kind that a task of this row meets in its next segment from this state, if it meets one
+abbrev pub snapshot_ahead : Program → State → FaultKind → Option TaskRow → Option FaultSnapshot
+snapshot_ahead p st kind None = None
+snapshot_ahead p st kind (Some row) = snapshot_by_kind p (ready_frame st.tasks row.frame) st.cells kind
 
 -- the kind of fault that a cause leads to; what has no cause within a segment is a task too many
 abbrev pub cause_kind : Option FaultCause → FaultKind
 cause_kind None = TaskLimit
 cause_kind (Some cause) = fault_kind cause
 
--- there is a scene, and its cause leads to a fault of this kind
-pub record HasScene (kind : FaultKind) (scene : Option FaultScene) : Type 0 where
-  pub there : FaultScene
-  pub is : scene ≡ Some there
+-- there is a snapshot, and its cause leads to a fault of this kind
+pub record HasSnapshot (kind : FaultKind) (snapshot : Option FaultSnapshot) : Type 0 where
+  pub there : FaultSnapshot
+  pub is : snapshot ≡ Some there
   pub kind : cause_kind there.cause ≡ kind
 
--- This is the scene of the first fault of a journal: the entries before it met none and lead to a state, from which the next
--- segment of its task meets a fault with this scene. There is one, and its cause is one of such a fault.
-pub record IsFaultScene (p : Program) (lim : Bounds) (journal : List Entry) (fault : FirstFault) (scene : Option FaultScene)
-    : Type 0 where
+-- This is the snapshot of the first fault of a journal: the entries before it met none and lead to a state, from which the next
+-- segment of its task meets a fault with this snapshot. There is one, and its cause is one of such a fault.
+pub record IsFaultSnapshot (p : Program) (lim : Bounds) (journal : List Entry) (fault : FirstFault)
+    (snapshot : Option FaultSnapshot) : Type 0 where
   pub before : List Entry
   pub later : List Entry
   pub split : journal ≡ before ++ faulty_entry fault ∷ later
   pub first : All (λ entry. is_fault entry.end ≡ false) before
-  pub same : scene ≡ scene_ahead p (state_after p lim before) fault.kind (slice_get (state_after p lim before).tasks fault.task)
-  pub there : HasScene fault.kind scene
+  pub same : snapshot
+      ≡ snapshot_ahead p (state_after p lim before) fault.kind (slice_get (state_after p lim before).tasks fault.task)
+  pub there : HasSnapshot fault.kind snapshot

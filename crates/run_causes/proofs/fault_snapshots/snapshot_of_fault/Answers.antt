@@ -15,11 +15,11 @@ use Rattle.twe_machine.specs.Moves.{move_result, ran, start_of}
 use Rattle.twe_machine.specs.Runs.{is_fault, state_after}
 use Rattle.twe_machine.proofs.standing.ReachedStands.{reached_stands}
 use Rattle.twe_machine.proofs.tasks.Movers.{mover_there}
-use Rattle.run_causes.specs.FaultScenes.{HasScene, faulty_entry, scene_ahead}
+use Rattle.run_causes.specs.FaultSnapshots.{HasSnapshot, faulty_entry, snapshot_ahead}
 use Rattle.run_causes.proofs.Beginnings.{next_may, reached_by, state_more}
 use Rattle.run_causes.proofs.FirstFaults.{ended_so, first_entry_is, still_none}
-use Rattle.run_causes.proofs.ScenesThere.{scene_is_there}
-use Rattle.run_causes.proofs.fault_scenes.scene_of_fault.Goals as goal
+use Rattle.run_causes.proofs.SnapshotsThere.{snapshot_is_there}
+use Rattle.run_causes.proofs.fault_snapshots.snapshot_of_fault.Goals as goal
 
 abbrev first_entry : Entry
 first_entry = record { mv = record { kind = Admit; task = 0 }; end = Admitted }
@@ -43,8 +43,8 @@ step-requires-clause-legal c =
     (next_may c.args.p.now c.args.lim c.args.journal.now c.loop-entry.entry-index first_entry c.requires.legal c.loop-entry-test.true)
 
 -- its task is there
-pub scene_ahead-requires-clause-there : goal.scene_ahead-requires-clause-there
-scene_ahead-requires-clause-there c =
+pub snapshot_ahead-requires-clause-there : goal.snapshot_ahead-requires-clause-there
+snapshot_ahead-requires-clause-there c =
     let st = c.loop-entry.st in
     let entry : Entry = get_or c.args.journal.now c.loop-entry.entry-index first_entry in
     mover_there st entry.mv.kind entry.mv.task
@@ -52,8 +52,8 @@ scene_ahead-requires-clause-there c =
     (next_may c.args.p.now c.args.lim c.args.journal.now c.loop-entry.entry-index first_entry c.requires.legal c.loop-entry-test.true))
 
 -- and the state has the cells of the program
-pub scene_ahead-requires-clause-cells : goal.scene_ahead-requires-clause-cells
-scene_ahead-requires-clause-cells c =
+pub snapshot_ahead-requires-clause-cells : goal.snapshot_ahead-requires-clause-cells
+snapshot_ahead-requires-clause-cells c =
     (reached_stands c.args.p.now c.args.lim c.loop-entry.st (subst IsWellFormed c.p.view_is c.p.invariant)
     (reached_by c.args.p.now c.args.lim c.args.journal.now c.loop-entry.entry-index c.loop-entry.st c.requires.legal c.loop-entry.invariant.state)).cells
 
@@ -94,10 +94,10 @@ returns-then-is_fault c =
     let is : entry ≡ faulty_entry c.args.fault =
     first_entry_is p lim (subst IsWellFormed c.p.view_is c.p.invariant) journal i first_entry c.args.fault c.requires.legal c.loop-entry-test.true
     (ap (λ (s : State). s.first_fault) (sym is_now) ∙ c.loop-entry.invariant.none) (sym c.is_fault.ensures ∙ c.if-is_fault.true) c.requires.fault in
-    let same : c.in_ok-scene.scene ≡ scene_ahead p before c.args.fault.kind (slice_get before.tasks c.args.fault.task) =
-    c.in_ok-scene.ensures
-    ∙ (ap (λ (s : State). scene_ahead p s c.args.fault.kind (slice_get s.tasks entry.mv.task)) is_now
-    ∙ ap (λ (e : Entry). scene_ahead p before c.args.fault.kind (slice_get before.tasks e.mv.task)) is) in
+    let same : c.in_ok-snapshot.snapshot ≡ snapshot_ahead p before c.args.fault.kind (slice_get before.tasks c.args.fault.task) =
+    c.in_ok-snapshot.ensures
+    ∙ (ap (λ (s : State). snapshot_ahead p s c.args.fault.kind (slice_get s.tasks entry.mv.task)) is_now
+    ∙ ap (λ (e : Entry). snapshot_ahead p before c.args.fault.kind (slice_get before.tasks e.mv.task)) is) in
     let ended : (move_result p lim before entry.mv).1 ≡ entry.end = ended_so p lim (start_of p lim) journal i first_entry c.requires.legal c.loop-entry-test.true in
     let met : (ran p lim before c.args.fault.task (slice_get before.tasks c.args.fault.task)).1 ≡ ends.Fault c.args.fault.kind c.args.fault.place =
     subst (λ (e : Entry). (move_result p lim before e.mv).1 ≡ e.end) is ended in
@@ -109,8 +109,8 @@ returns-then-is_fault c =
           ∙ ap (λ (e : Entry). take i journal ++ e ∷ drop (suc i) journal) is);
       first = c.loop-entry.invariant.quiet;
       same = same;
-      there = subst (HasScene c.args.fault.kind) (sym same)
-          (scene_is_there p lim before c.args.fault.task (slice_get before.tasks c.args.fault.task) c.args.fault.kind c.args.fault.place met);
+      there = subst (HasSnapshot c.args.fault.kind) (sym same)
+          (snapshot_is_there p lim before c.args.fault.task (slice_get before.tasks c.args.fault.task) c.args.fault.kind c.args.fault.place met);
     }
 
 -- one entry has met it

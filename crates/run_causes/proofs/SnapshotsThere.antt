@@ -1,4 +1,4 @@
--- A segment that ends with a fault has a scene, whose cause leads to a fault of that kind.
+-- A segment that ends with a fault has a snapshot, whose cause leads to a fault of that kind.
 use Rattle.std.proofs.Common.{◌≡◌, ℕ, ◌+◌, ℤ, pos, Bool, true, false, List, [], ◌∷◌, Option, None, Some, if◌then◌else◌, nat_lt, refl, sym, ap, ◌∙◌, subst}
 use Rattle.twe_base.specs.declared.fault.FaultKind.{FaultKind}
 use Rattle.twe_base.specs.declared.fault.FaultKind.TheVariants as kinds
@@ -13,34 +13,34 @@ use Rattle.seg_exec.specs.declared.frame.Frame.{Frame}
 use Rattle.seg_exec.specs.declared.frame.Position.{Position}
 use Rattle.seg_exec.specs.declared.operation.Operation.{Operation}
 use Rattle.seg_exec.specs.declared.operation.Operation.TheVariants as operations
-use Rattle.seg_exec.specs.declared.scene.FaultScene.{FaultScene}
+use Rattle.seg_exec.specs.declared.snapshot.FaultSnapshot.{FaultSnapshot}
 use Rattle.seg_exec.specs.Causes.{fault_kind}
-use Rattle.seg_exec.specs.Scene.{scene_of}
+use Rattle.seg_exec.specs.Snapshots.{snapshot_of}
 use Rattle.seg_exec.specs.Segment.{Stopped, closing_stop, flow_of, open_body, segment, stopped_by, task_of, waiting_stop}
 use Rattle.seg_exec.specs.Store.{Store, Flow, goes, returns, fails, stops}
 use Rattle.twe_machine.specs.declared.state.State.{State}
 use Rattle.twe_machine.specs.declared.state.TaskRow.{TaskRow}
 use Rattle.twe_machine.specs.Moves.{joined_child, ran, ready_frame, state_after_join, stop_result}
-use Rattle.run_causes.specs.FaultScenes.{HasScene, cause_kind, scene_ahead, scene_between, scene_by_kind}
+use Rattle.run_causes.specs.FaultSnapshots.{HasSnapshot, cause_kind, snapshot_ahead, snapshot_between, snapshot_by_kind}
 use Rattle.wait_graph.specs.Link.{link_of}
 
 module _ (p : Program) (lim : Bounds) where
-  -- the scene of a fault within a segment
+  -- the snapshot of a fault within a segment
   by_cause : (frame : Frame) (cells : List ℤ) (cause : FaultCause) (place : Place) (s : Store) → flow_of p frame frame.body cells ≡ fails cause place s
-      → (kind : FaultKind) → fault_kind cause ≡ kind → HasScene kind (scene_by_kind p frame cells kind)
-  by_cause frame cells causes.DivZero place s is kind same = subst (λ (k : FaultKind). HasScene k (scene_by_kind p frame cells k)) same (record { there = record { cause = Some causes.DivZero; vars = s.vars; calls = s.calls; cells = s.cells }; is = ap scene_of is; kind = refl })
-  by_cause frame cells (causes.Index index) place s is kind same = subst (λ (k : FaultKind). HasScene k (scene_by_kind p frame cells k)) same (record { there = record { cause = Some (causes.Index index); vars = s.vars; calls = s.calls; cells = s.cells }; is = ap scene_of is; kind = refl })
-  by_cause frame cells (causes.GridIndex row column) place s is kind same = subst (λ (k : FaultKind). HasScene k (scene_by_kind p frame cells k)) same (record { there = record { cause = Some (causes.GridIndex row column); vars = s.vars; calls = s.calls; cells = s.cells }; is = ap scene_of is; kind = refl })
-  by_cause frame cells causes.Fuel place s is kind same = subst (λ (k : FaultKind). HasScene k (scene_by_kind p frame cells k)) same (record { there = record { cause = Some causes.Fuel; vars = s.vars; calls = s.calls; cells = s.cells }; is = ap scene_of is; kind = refl })
-  by_cause frame cells causes.Depth place s is kind same = subst (λ (k : FaultKind). HasScene k (scene_by_kind p frame cells k)) same (record { there = record { cause = Some causes.Depth; vars = s.vars; calls = s.calls; cells = s.cells }; is = ap scene_of is; kind = refl })
+      → (kind : FaultKind) → fault_kind cause ≡ kind → HasSnapshot kind (snapshot_by_kind p frame cells kind)
+  by_cause frame cells causes.DivZero place s is kind same = subst (λ (k : FaultKind). HasSnapshot k (snapshot_by_kind p frame cells k)) same (record { there = record { cause = Some causes.DivZero; vars = s.vars; calls = s.calls; cells = s.cells }; is = ap snapshot_of is; kind = refl })
+  by_cause frame cells (causes.Index index) place s is kind same = subst (λ (k : FaultKind). HasSnapshot k (snapshot_by_kind p frame cells k)) same (record { there = record { cause = Some (causes.Index index); vars = s.vars; calls = s.calls; cells = s.cells }; is = ap snapshot_of is; kind = refl })
+  by_cause frame cells (causes.GridIndex row column) place s is kind same = subst (λ (k : FaultKind). HasSnapshot k (snapshot_by_kind p frame cells k)) same (record { there = record { cause = Some (causes.GridIndex row column); vars = s.vars; calls = s.calls; cells = s.cells }; is = ap snapshot_of is; kind = refl })
+  by_cause frame cells causes.Fuel place s is kind same = subst (λ (k : FaultKind). HasSnapshot k (snapshot_by_kind p frame cells k)) same (record { there = record { cause = Some causes.Fuel; vars = s.vars; calls = s.calls; cells = s.cells }; is = ap snapshot_of is; kind = refl })
+  by_cause frame cells causes.Depth place s is kind same = subst (λ (k : FaultKind). HasSnapshot k (snapshot_by_kind p frame cells k)) same (record { there = record { cause = Some causes.Depth; vars = s.vars; calls = s.calls; cells = s.cells }; is = ap snapshot_of is; kind = refl })
 
-  -- the scene of a task too many
+  -- the snapshot of a task too many
   at_make : (frame : Frame) (cells : List ℤ) (operation : Operation) (positions : List Position) (s : Store) → flow_of p frame frame.body cells ≡ stops operation positions s
-      → (kind : FaultKind) → kinds.TaskLimit ≡ kind → HasScene kind (scene_by_kind p frame cells kind)
+      → (kind : FaultKind) → kinds.TaskLimit ≡ kind → HasSnapshot kind (snapshot_by_kind p frame cells kind)
   at_make frame cells operation positions s is kind same =
-      subst (λ (k : FaultKind). HasScene k (scene_by_kind p frame cells k)) same (record {
+      subst (λ (k : FaultKind). HasSnapshot k (snapshot_by_kind p frame cells k)) same (record {
         there = record { cause = None; vars = s.vars; calls = []; cells = s.cells };
-        is = ap (λ (f : Flow). scene_between (stopped_by p frame f).cells (stopped_by p frame f).frame.body) is;
+        is = ap (λ (f : Flow). snapshot_between (stopped_by p frame f).cells (stopped_by p frame f).frame.body) is;
         kind = refl;
       })
 
@@ -62,7 +62,7 @@ module _ (p : Program) (lim : Bounds) where
   limit_at_make false made refused child at place kind e = cc
 
   by_flow : (st : State) (t : ℕ) (row : TaskRow) (frame : Frame) (cells : List ℤ) (f : Flow) → flow_of p frame frame.body cells ≡ f → (kind : FaultKind) (place : Place)
-      → (stop_result lim st t row (stopped_by p frame f).frame (stopped_by p frame f).stop).1 ≡ ends.Fault kind place → HasScene kind (scene_by_kind p frame cells kind)
+      → (stop_result lim st t row (stopped_by p frame f).frame (stopped_by p frame f).stop).1 ≡ ends.Fault kind place → HasSnapshot kind (snapshot_by_kind p frame cells kind)
   by_flow st t row frame cells (goes s) is kind place e = no_fault_at_end st t row (stopped_by p frame (goes s)).frame frame.out.items (pos 0) kind place _ e
   by_flow st t row frame cells (returns value s) is kind place e = no_fault_at_end st t row (stopped_by p frame (returns value s)).frame frame.out.items value kind place _ e
   by_flow st t row frame cells (fails cause at s) is kind place e = by_cause frame cells cause at s is kind (cc)
@@ -72,11 +72,11 @@ module _ (p : Program) (lim : Bounds) where
   by_flow st t row frame cells (stops (operations.Wait future join into) positions s) is kind place e =
       no_fault_at_wait st t row (stopped_by p frame (stops (operations.Wait future join into) positions s)).frame join _ kind place _ e
 
-  -- the next segment of a task, if it meets a fault, has a scene of that kind
-  pub scene_is_there : (st : State) (t : ℕ) (row : Option TaskRow) (kind : FaultKind) (place : Place) → (ran p lim st t row).1 ≡ ends.Fault kind place
-      → HasScene kind (scene_ahead p st kind row)
-  scene_is_there st t None kind place e = absurd (cc)
-  scene_is_there st t (Some row) kind place e =
+  -- the next segment of a task, if it meets a fault, has a snapshot of that kind
+  pub snapshot_is_there : (st : State) (t : ℕ) (row : Option TaskRow) (kind : FaultKind) (place : Place) → (ran p lim st t row).1 ≡ ends.Fault kind place
+      → HasSnapshot kind (snapshot_ahead p st kind row)
+  snapshot_is_there st t None kind place e = absurd (cc)
+  snapshot_is_there st t (Some row) kind place e =
       let frame : Frame = ready_frame st.tasks row.frame in
       let left : Stopped = segment p frame st.cells in
       let stored : State = record st { cells = left.cells } in

@@ -3,14 +3,14 @@ use Rattle.std.specs.Prelude.{option_map}
 use Rattle.twe_program.specs.Program.{Program}
 use Rattle.twe_program.specs.WellFormed.{IsWellFormed}
 use Rattle.seg_exec.specs.Plain.{list_ways}
-use Rattle.seg_exec.specs.Scene.{scene_of}
+use Rattle.seg_exec.specs.Snapshots.{snapshot_of}
 use Rattle.seg_exec.specs.Segment.{flow_of}
 use Rattle.seg_exec.specs.inner.steps.Unfolded.{config_at}
 use Rattle.seg_exec.specs.inner.steps.Views.{config_of}
 use Rattle.seg_exec.proofs.Accesses.{may_carry_out}
-use Rattle.seg_exec.proofs.Scenes.{scene_met}
+use Rattle.seg_exec.proofs.SnapshotsMet.{snapshot_met}
 use Rattle.seg_exec.proofs.Segments.{if_ok_map, may_run}
-use Rattle.seg_exec.proofs.scene.fault_scene.Goals as goal
+use Rattle.seg_exec.proofs.snapshot.fault_snapshot.Goals as goal
 
 pub run-requires : goal.run-requires
 run-requires c =
@@ -24,7 +24,7 @@ pub returns : goal.returns
 returns c =
     let is : config_at c.args.p.now c.args.frame.now c.args.frame.now.body ≡ Some (config_of c.in-Some.machine) =
     sym c.in_ok-machine.ensures ∙ ap (option_map config_of) c.in-Some.is in
-    if_ok_map c.scene_at.result (λ scene there. there
-    ∙ scene_met c.args.p.now c.args.frame.now c.in-Some.machine c.run.new.machine c.in_ok-cells.cells c.run.new.cells c.new-prints.result c.run.new.prints
+    if_ok_map c.snapshot_at.result (λ snapshot there. there
+    ∙ snapshot_met c.args.p.now c.args.frame.now c.in-Some.machine c.run.new.machine c.in_ok-cells.cells c.run.new.cells c.new-prints.result c.run.new.prints
     c.in_ok-ending.ending is c.in_ok-ending.ensures
-    ∙ ap (λ (xs : List ℤ). scene_of (flow_of c.args.p.now c.args.frame.now c.args.frame.now.body xs)) c.in_ok-cells.ensures) c.scene_at.ensures
+    ∙ ap (λ (xs : List ℤ). snapshot_of (flow_of c.args.p.now c.args.frame.now c.args.frame.now.body xs)) c.in_ok-cells.ensures) c.snapshot_at.ensures
