@@ -1,5 +1,5 @@
 -- A segment that ends with a fault has a snapshot, whose cause leads to a fault of that kind.
-use Rattle.std.proofs.Common.{◌≡◌, ℕ, ◌+◌, ℤ, pos, Bool, true, false, List, [], ◌∷◌, Option, None, Some, if◌then◌else◌, nat_lt, refl, sym, ap, ◌∙◌, subst}
+use Rattle.std.proofs.Common.{◌≡◌, ℕ, ◌+◌, ℤ, pos, Bool, true, false, List, [], ◌∷◌, Option, None, Some, if◌then◌else◌, nat_lt, refl, ap, subst}
 use Rattle.twe_base.specs.declared.fault.FaultKind.{FaultKind}
 use Rattle.twe_base.specs.declared.fault.FaultKind.TheVariants as kinds
 use Rattle.twe_base.specs.declared.place.Place.{Place}
@@ -13,26 +13,25 @@ use Rattle.seg_exec.specs.declared.frame.Frame.{Frame}
 use Rattle.seg_exec.specs.declared.frame.Position.{Position}
 use Rattle.seg_exec.specs.declared.operation.Operation.{Operation}
 use Rattle.seg_exec.specs.declared.operation.Operation.TheVariants as operations
-use Rattle.seg_exec.specs.declared.snapshot.FaultSnapshot.{FaultSnapshot}
 use Rattle.seg_exec.specs.Causes.{fault_kind}
 use Rattle.seg_exec.specs.Snapshots.{snapshot_of}
-use Rattle.seg_exec.specs.Segment.{Stopped, closing_stop, flow_of, open_body, segment, stopped_by, task_of, waiting_stop}
+use Rattle.seg_exec.specs.Segment.{Stopped, closing_stop, flow_of, segment, stopped_by, waiting_stop}
 use Rattle.seg_exec.specs.Store.{Store, Flow, goes, returns, fails, stops}
 use Rattle.twe_machine.specs.declared.state.State.{State}
 use Rattle.twe_machine.specs.declared.state.TaskRow.{TaskRow}
 use Rattle.twe_machine.specs.Moves.{joined_child, ran, ready_frame, state_after_join, stop_result}
-use Rattle.run_causes.specs.FaultSnapshots.{HasSnapshot, cause_kind, snapshot_ahead, snapshot_between, snapshot_by_kind}
+use Rattle.run_causes.specs.FaultSnapshots.{HasSnapshot, snapshot_ahead, snapshot_between, snapshot_by_kind}
 use Rattle.wait_graph.specs.Link.{link_of}
 
 module _ (p : Program) (lim : Bounds) where
   -- the snapshot of a fault within a segment
   by_cause : (frame : Frame) (cells : List ℤ) (cause : FaultCause) (place : Place) (s : Store) → flow_of p frame frame.body cells ≡ fails cause place s
       → (kind : FaultKind) → fault_kind cause ≡ kind → HasSnapshot kind (snapshot_by_kind p frame cells kind)
-  by_cause frame cells causes.DivZero place s is kind same = subst (λ (k : FaultKind). HasSnapshot k (snapshot_by_kind p frame cells k)) same (record { there = record { cause = Some causes.DivZero; vars = s.vars; calls = s.calls; cells = s.cells }; is = ap snapshot_of is; kind = refl })
-  by_cause frame cells (causes.Index index) place s is kind same = subst (λ (k : FaultKind). HasSnapshot k (snapshot_by_kind p frame cells k)) same (record { there = record { cause = Some (causes.Index index); vars = s.vars; calls = s.calls; cells = s.cells }; is = ap snapshot_of is; kind = refl })
-  by_cause frame cells (causes.GridIndex row column) place s is kind same = subst (λ (k : FaultKind). HasSnapshot k (snapshot_by_kind p frame cells k)) same (record { there = record { cause = Some (causes.GridIndex row column); vars = s.vars; calls = s.calls; cells = s.cells }; is = ap snapshot_of is; kind = refl })
-  by_cause frame cells causes.Fuel place s is kind same = subst (λ (k : FaultKind). HasSnapshot k (snapshot_by_kind p frame cells k)) same (record { there = record { cause = Some causes.Fuel; vars = s.vars; calls = s.calls; cells = s.cells }; is = ap snapshot_of is; kind = refl })
-  by_cause frame cells causes.Depth place s is kind same = subst (λ (k : FaultKind). HasSnapshot k (snapshot_by_kind p frame cells k)) same (record { there = record { cause = Some causes.Depth; vars = s.vars; calls = s.calls; cells = s.cells }; is = ap snapshot_of is; kind = refl })
+  by_cause frame cells causes.DivZero place s is kind same = subst (λ (k : FaultKind). HasSnapshot k (snapshot_by_kind p frame cells k)) same (record { there = record { cause = Some causes.DivZero; vars = s.vars; calls = s.calls; cells = s.cells }; is = ap snapshot_of is; leads = refl })
+  by_cause frame cells (causes.Index index) place s is kind same = subst (λ (k : FaultKind). HasSnapshot k (snapshot_by_kind p frame cells k)) same (record { there = record { cause = Some (causes.Index index); vars = s.vars; calls = s.calls; cells = s.cells }; is = ap snapshot_of is; leads = refl })
+  by_cause frame cells (causes.GridIndex row column) place s is kind same = subst (λ (k : FaultKind). HasSnapshot k (snapshot_by_kind p frame cells k)) same (record { there = record { cause = Some (causes.GridIndex row column); vars = s.vars; calls = s.calls; cells = s.cells }; is = ap snapshot_of is; leads = refl })
+  by_cause frame cells causes.Fuel place s is kind same = subst (λ (k : FaultKind). HasSnapshot k (snapshot_by_kind p frame cells k)) same (record { there = record { cause = Some causes.Fuel; vars = s.vars; calls = s.calls; cells = s.cells }; is = ap snapshot_of is; leads = refl })
+  by_cause frame cells causes.Depth place s is kind same = subst (λ (k : FaultKind). HasSnapshot k (snapshot_by_kind p frame cells k)) same (record { there = record { cause = Some causes.Depth; vars = s.vars; calls = s.calls; cells = s.cells }; is = ap snapshot_of is; leads = refl })
 
   -- the snapshot of a task too many
   at_make : (frame : Frame) (cells : List ℤ) (operation : Operation) (positions : List Position) (s : Store) → flow_of p frame frame.body cells ≡ stops operation positions s
@@ -41,7 +40,7 @@ module _ (p : Program) (lim : Bounds) where
       subst (λ (k : FaultKind). HasSnapshot k (snapshot_by_kind p frame cells k)) same (record {
         there = record { cause = None; vars = s.vars; calls = []; cells = s.cells };
         is = ap (λ (f : Flow). snapshot_between (stopped_by p frame f).cells (stopped_by p frame f).frame.body) is;
-        kind = refl;
+        leads = refl;
       })
 
   -- a segment that comes to the end of its body meets no fault
@@ -57,7 +56,7 @@ module _ (p : Program) (lim : Bounds) where
 
   -- a make that meets a fault is that of a task too many
   limit_at_make : (below : Bool) (made refused : State) (child : ℕ) (at place : Place) (kind : FaultKind)
-      → (if below then (made, ends.Made child) else (refused, ends.Fault kinds.TaskLimit at)).1 ≡ ends.Fault kind place → kinds.TaskLimit ≡ kind
+      → (if◌then◌else◌ {A = State × End} below (made, ends.Made child) (refused, ends.Fault kinds.TaskLimit at)).1 ≡ ends.Fault kind place → kinds.TaskLimit ≡ kind
   limit_at_make true made refused child at place kind e = absurd (cc)
   limit_at_make false made refused child at place kind e = cc
 

@@ -51,7 +51,7 @@ cause_kind (Some cause) = fault_kind cause
 pub record HasSnapshot (kind : FaultKind) (snapshot : Option FaultSnapshot) : Type 0 where
   pub there : FaultSnapshot
   pub is : snapshot ≡ Some there
-  pub kind : cause_kind there.cause ≡ kind
+  pub leads : cause_kind there.cause ≡ kind
 
 -- This is the snapshot of the first fault of a journal: the entries before it met none and lead to a state, from which the next
 -- segment of its task meets a fault with this snapshot. There is one, and its cause is one of such a fault.

@@ -1,5 +1,5 @@
 -- What the cells held at a fault.
-use Rattle.std.specs.Prelude.{ℕ, ◌-◌, ◌++◌, Bool, ℤ, List, [], ◌∷◌, Option, None, Some, codes, decimal, drop, if◌then◌else◌, length, map, nat_lt, take}
+use Rattle.std.specs.Prelude.{ℕ, ◌-◌, ◌++◌, ℤ, List, [], ◌∷◌, Option, None, Some, codes, decimal, drop, if◌then◌else◌, length, map, nat_lt, take}
 use Rattle.twe_program.specs.declared.program.CellDecl.{CellDecl}
 use Rattle.twe_program.specs.Program.{size_of}
 use Rattle.seg_exec.specs.declared.snapshot.FaultSnapshot.{FaultSnapshot}

@@ -1,11 +1,11 @@
 -- The answer to a text that is run is due.
-use Rattle.std.proofs.Common.{◌≡◌, ℕ, Bool, List, Some, None, refl, subst}
+use Rattle.std.proofs.Common.{ℕ, Bool, List, Some, None, refl, subst}
 use Rattle.seg_journal.specs.declared.journal.Entry.{Entry}
 use Rattle.twe_base.specs.Limits.{Bounds}
 use Rattle.twe_program.specs.Program.{Program}
 use Rattle.twe_frontend.specs.Accepted.{Accepted}
 use Rattle.twe_machine.specs.LowestFirst.{IsOver, LowestFirst}
-use Rattle.twe_machine.specs.Runs.{AlwaysIsolated, EachAtMostOnce, EachOnce, IsOutcome, IsRun, state_after}
+use Rattle.twe_machine.specs.Runs.{AlwaysIsolated, EachAtMostOnce, EachOnce, IsOutcome, IsRun}
 use Rattle.twe_machine.specs.declared.ending.Outcome.{Outcome}
 use Rattle.twe_machine.specs.declared.ending.Outcome.TheVariants.{AllDone, Fault, Stuck, Unfinished}
 use Rattle.twe_machine.specs.declared.state.State.{State}
