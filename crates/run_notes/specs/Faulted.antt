@@ -1,6 +1,6 @@
 -- What is said of a fault.
 use Rattle.std.specs.Fmt.{signed_decimal}
-use Rattle.std.specs.Prelude.{◌++◌, ℕ, List, [], ◌∷◌, Option, None, Some, bytes_eq, codes, decimal, if◌then◌else◌, slice_get}
+use Rattle.std.specs.Prelude.{◌++◌, ℕ, ℤ, List, [], ◌∷◌, Option, None, Some, bytes_eq, codes, decimal, if◌then◌else◌, slice_get}
 use Rattle.twe_base.specs.declared.fault.FaultKind.{FaultKind}
 use Rattle.twe_base.specs.declared.fault.FaultKind.TheVariants as kinds
 use Rattle.twe_base.specs.declared.place.Place.{Place}
@@ -75,11 +75,15 @@ task_fuel_text fuel =
 abbrev pub task_limit_text : ℕ → List ℕ
 task_limit_text tasks = codes "the limit on tasks is " ++ (decimal tasks ++ codes " in this run, and main is one of them")
 
+-- a number after these words
+abbrev pub number_after : List ℕ → ℤ → List ℕ
+number_after words number = words ++ signed_decimal number
+
 -- the index, or the row and the column, that led to a fault, as words before those on its bound
 abbrev pub index_words : Option FaultCause → List ℕ
-index_words (Some (Index index)) = codes "the index is " ++ (signed_decimal index ++ codes "; ")
+index_words (Some (Index index)) = number_after (codes "the index is ") index ++ codes "; "
 index_words (Some (GridIndex row column)) =
-    codes "the row is " ++ (signed_decimal row ++ (codes " and the column is " ++ (signed_decimal column ++ codes "; ")))
+    number_after (codes "the row is ") row ++ (number_after (codes " and the column is ") column ++ codes "; ")
 index_words _ = []
 
 -- the same in a snapshot, if there is one

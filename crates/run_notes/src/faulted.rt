@@ -1,6 +1,6 @@
 //! What is said of a fault.
 ghost use Rattle.std.specs.Prelude.{◌≡◌, ◌∷◌, ◌++◌, [], IfOk, OnOk};
-ghost use Rattle.run_notes.specs.Faulted.{bounds_found, bounds_text, dims_named, fault_caption, fault_explanation, fault_headline, fault_notes, fault_remark, fault_remarks, index_words, index_words_in, runs_of_snapshot, task_fuel_text, any_bound, grid_bounds, made_caption, made_notes, notes_if, row_bound, task_limit_text};
+ghost use Rattle.run_notes.specs.Faulted.{bounds_found, bounds_text, dims_named, fault_caption, fault_explanation, fault_headline, fault_notes, fault_remark, fault_remarks, index_words, index_words_in, runs_of_snapshot, task_fuel_text, any_bound, grid_bounds, made_caption, made_notes, notes_if, number_after, row_bound, task_limit_text};
 
 use crate::calls_shown::{CallRun, push_call_notes, push_calls_left_out, runs_of};
 use crate::cells_shown::push_snapshot_cells_shown;
@@ -142,21 +142,26 @@ fn fault_remark(
     }
 }
 
+/// Appends a number after these words.
+fn push_number_after(text: &mut Bytes, words: &[u8], number: i32) -> Result<(), Memory>
+    ensures { OnOk result (text.new ≡ text.old ++ number_after words.now number) }
+{
+    text.push_all(words)?;
+    text.push_all(Buffer::new().format(number).as_bytes())
+}
+
 /// Appends the index, or the row and the column, that led to a fault, as words before those on its bound.
 fn push_index_words(text: &mut Bytes, cause: Option<FaultCause>) -> Result<(), Memory>
     ensures { OnOk result (text.new ≡ text.old ++ index_words cause) }
 {
     match cause {
         Some(FaultCause::Index(index)) => {
-            text.push_all(b"the index is ")?;
-            text.push_all(Buffer::new().format(index).as_bytes())?;
+            push_number_after(text, b"the index is ", index)?;
             text.push_all(b"; ")
         }
         Some(FaultCause::GridIndex { row, column }) => {
-            text.push_all(b"the row is ")?;
-            text.push_all(Buffer::new().format(row).as_bytes())?;
-            text.push_all(b" and the column is ")?;
-            text.push_all(Buffer::new().format(column).as_bytes())?;
+            push_number_after(text, b"the row is ", row)?;
+            push_number_after(text, b" and the column is ", column)?;
             text.push_all(b"; ")
         }
         _ => Ok(()),
