@@ -10,9 +10,7 @@ use twe_program::{Args, Expr, ExprKind};
 pub fn truth(value: bool) -> Expr
     ensures { result ≡ Truth value }
 {
-    Expr {
-        kind: ExprKind::Truth(value),
-    }
+    Expr::new(ExprKind::Truth(value))
 }
 
 /// An element of an array.
@@ -26,7 +24,7 @@ pub fn array_element(alloc: Global, array: u32, index: Expr, place: Place) -> Re
         second: None,
         place,
     };
-    Ok(Expr { kind })
+    Ok(Expr::new(kind))
 }
 
 /// An element of a grid.
@@ -47,7 +45,7 @@ pub fn grid_element(
         second: Some(column),
         place,
     };
-    Ok(Expr { kind })
+    Ok(Expr::new(kind))
 }
 
 /// A call of a method.
@@ -59,7 +57,7 @@ pub fn call(method: u32, args: Args, place: Place) -> Expr
         args,
         place,
     };
-    Expr { kind }
+    Expr::new(kind)
 }
 
 /// The negative of a number.
@@ -67,9 +65,7 @@ pub fn negative(alloc: Global, operand: Expr) -> Result<Expr, Memory>
     ensures { IfOk result (λ e. e ≡ Negative operand) }
 {
     let operand = Box::new(alloc, operand)?;
-    Ok(Expr {
-        kind: ExprKind::Neg(operand),
-    })
+    Ok(Expr::new(ExprKind::Neg(operand)))
 }
 
 /// The negation of a truth value.
@@ -77,7 +73,5 @@ pub fn negation(alloc: Global, operand: Expr) -> Result<Expr, Memory>
     ensures { IfOk result (λ e. e ≡ Negation operand) }
 {
     let operand = Box::new(alloc, operand)?;
-    Ok(Expr {
-        kind: ExprKind::Not(operand),
-    })
+    Ok(Expr::new(ExprKind::Not(operand)))
 }

@@ -1,5 +1,5 @@
 -- An expression, as contracts see it: a tree.
-use Rattle.std.specs.Prelude.{ℕ, ℤ, Bool, List, [], ◌∷◌}
+use Rattle.std.specs.Prelude.{ℕ, ℤ, Bool, true, false, ◌&&◌, List, [], ◌∷◌}
 use Rattle.twe_base.specs.declared.place.Place.{Place}
 use Rattle.twe_ast.specs.declared.expr.BinOp.{BinOp}
 
@@ -30,3 +30,16 @@ mutual
 abbrev pub arguments_of : List Expression → Arguments
 arguments_of [] = no_more
 arguments_of (first ∷ others) = argument first (arguments_of others)
+
+-- whether an expression calls no method
+abbrev pub is_plain : Expression → Bool
+is_plain (Literal value) = true
+is_plain (Truth value) = true
+is_plain (Variable var fixed) = true
+is_plain (CellValue cell place) = true
+is_plain (ArrayElement array index place) = is_plain index
+is_plain (GridElement array row column place) = is_plain row && is_plain column
+is_plain (CallValue method args place) = false
+is_plain (Negative operand) = is_plain operand
+is_plain (Negation operand) = is_plain operand
+is_plain (Binary op left right place) = is_plain left && is_plain right

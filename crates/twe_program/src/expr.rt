@@ -1,6 +1,7 @@
 //! Expressions. Contracts see an expression as an `Expression`, a plain tree.
 ghost use Rattle.std.specs.Prelude.{◌≡◌, IfOk};
-ghost use Rattle.twe_program.specs.Expression.{Literal, CellValue, Binary};
+ghost use Rattle.twe_program.specs.Expression.{Literal, CellValue, Binary, is_plain};
+ghost use Rattle.twe_program.specs.inner.ExpressionView.{expression_of};
 
 use std::alloc::Global;
 use std::marker::Model;
@@ -13,6 +14,8 @@ use twe_base::{Memory, Place};
 pub struct Expr {
     /// What the expression is.
     pub kind: ExprKind,
+    // Whether it calls no method.
+    plain: bool,
 }
 
 /// The arguments of a call, from left to right.
@@ -95,6 +98,11 @@ impl Model for Expr {
 
     ghost view = { λ e. expression_of e.kind };
 
+    ghost use Rattle.std.specs.Prelude.{◌≡◌};
+    ghost use Rattle.twe_program.specs.Expression.{is_plain};
+
+    ghost invariant = { λ e. e.plain ≡ is_plain (expression_of e.kind) };
+
     ghost size = { depth };
 }
 
@@ -117,23 +125,61 @@ impl Model for Args {
     ghost size_decreases = { λ args h. Prim.omega (arith, most_deep args.items.items) };
 }
 
+/// Whether an expression of this kind calls no method.
+fn is_plain(kind: &ExprKind) -> bool
+    ensures { result ≡ is_plain (expression_of kind.now) }
+{
+    match kind {
+        ExprKind::Lit(_) => true,
+        ExprKind::Truth(_) => true,
+        ExprKind::Var { .. } => true,
+        ExprKind::Cell { .. } => true,
+        ExprKind::At {
+            index,
+            second: None,
+            ..
+        } => index.is_plain(),
+        ExprKind::At {
+            index,
+            second: Some(second),
+            ..
+        } => index.is_plain() && second.is_plain(),
+        ExprKind::Call { .. } => false,
+        ExprKind::Neg(operand) => operand.is_plain(),
+        ExprKind::Not(operand) => operand.is_plain(),
+        ExprKind::Bin { left, right, .. } => left.is_plain() && right.is_plain(),
+    }
+}
+
 impl Expr {
+    /// The expression of this kind.
+    pub fn new(kind: ExprKind) -> Expr
+        ensures { result ≡ expression_of kind }
+    {
+        let plain = is_plain(&kind);
+        Expr { kind, plain }
+    }
+
+    /// Whether it calls no method.
+    #[inline(always)]
+    pub fn is_plain(&self) -> bool
+        ensures { result ≡ is_plain self.now }
+    {
+        self.plain
+    }
+
     /// An integer literal.
     pub fn literal(value: i32) -> Expr
         ensures { result ≡ Literal value }
     {
-        Expr {
-            kind: ExprKind::Lit(value),
-        }
+        Expr::new(ExprKind::Lit(value))
     }
 
     /// The value of a cell.
     pub fn cell(cell: u32, place: Place) -> Expr
         ensures { result ≡ CellValue cell place }
     {
-        Expr {
-            kind: ExprKind::Cell { cell, place },
-        }
+        Expr::new(ExprKind::Cell { cell, place })
     }
 
     /// A binary operator with its operands.
@@ -154,6 +200,6 @@ impl Expr {
             right,
             place,
         };
-        Ok(Expr { kind })
+        Ok(Expr::new(kind))
     }
 }

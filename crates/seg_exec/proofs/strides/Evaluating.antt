@@ -12,7 +12,7 @@ use Rattle.seg_exec.specs.Arithmetic.{decided, is_true, negation, negative, numb
 use Rattle.seg_exec.specs.Cells.{cell_number, element_number, grid_element_number}
 use Rattle.seg_exec.specs.inner.steps.Continuations.{Continuation, Config, Apply, Evaluate, Invert, Negate, ReadElement, ReadGridElement, Right}
 use Rattle.seg_exec.specs.inner.strides.Leaves.{decided_or, leaf_value, pair_value, value_on}
-use Rattle.seg_exec.specs.inner.strides.Plainly.{is_plain}
+use Rattle.twe_program.specs.Expression.{is_plain}
 use Rattle.seg_exec.specs.inner.steps.Reached.{MayRequest, Served, Standing}
 use Rattle.seg_exec.specs.declared.fault.FaultCause.{FaultCause}
 use Rattle.seg_exec.specs.declared.fault.FaultCause.TheVariants.{Index, GridIndex}

@@ -5,7 +5,7 @@ ghost use Rattle.seg_exec.specs.declared.steps.continuation.Goal.TheVariants.{En
 ghost use Rattle.seg_exec.specs.inner.steps.Continuations.{Gather, Take};
 ghost use Rattle.seg_exec.specs.inner.steps.Steps.{entering, faulted};
 ghost use Rattle.seg_exec.specs.inner.steps.Views.{config_before, config_of};
-ghost use Rattle.seg_exec.specs.inner.strides.Plainly.{is_plain};
+ghost use Rattle.twe_program.specs.Expression.{is_plain};
 ghost use Rattle.seg_exec.specs.inner.strides.Moving.{Moves, MovesOn, gathering_from, step_on, course};
 ghost use Rattle.seg_exec.specs.inner.strides.Strides.{MayGo, MayStride};
 ghost use Rattle.seg_exec.specs.inner.steps.Reached.{standing};

@@ -5,7 +5,7 @@ ghost use Rattle.seg_exec.specs.Access.{ways_of};
 ghost use Rattle.seg_exec.specs.inner.steps.Continuations.{Evaluate, Rest, Unwind};
 ghost use Rattle.seg_exec.specs.inner.steps.Reached.{standing};
 ghost use Rattle.seg_exec.specs.inner.strides.Moving.{Moves, course};
-ghost use Rattle.seg_exec.specs.inner.strides.Plainly.{is_plain};
+ghost use Rattle.twe_program.specs.Expression.{is_plain};
 ghost use Rattle.seg_exec.specs.inner.strides.Strides.{MayGo, doing};
 
 use crate::cells::Cells;

@@ -3,7 +3,7 @@ ghost use Rattle.std.specs.Prelude.{◌≡◌, true, IfOk};
 ghost use Rattle.seg_exec.specs.Access.{ways_of};
 ghost use Rattle.seg_exec.specs.inner.steps.Reached.{standing};
 ghost use Rattle.seg_exec.specs.inner.strides.Moving.{Moves, course};
-ghost use Rattle.seg_exec.specs.inner.strides.Plainly.{is_plain};
+ghost use Rattle.twe_program.specs.Expression.{is_plain};
 ghost use Rattle.seg_exec.specs.inner.strides.Strides.{MayGo};
 ghost use Rattle.seg_exec.specs.inner.strides.Turning.{IsLoop, Turns, looping};
 

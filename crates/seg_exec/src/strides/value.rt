@@ -3,7 +3,7 @@ ghost use Rattle.std.specs.Prelude.{◌≡◌, true, slice_get};
 ghost use Rattle.seg_exec.specs.Access.{value_in, ways_of};
 ghost use Rattle.seg_exec.specs.Arithmetic.{operated};
 ghost use Rattle.seg_exec.specs.inner.strides.Leaves.{leaf_value, pair_value};
-ghost use Rattle.seg_exec.specs.inner.strides.Plainly.{is_plain};
+ghost use Rattle.twe_program.specs.Expression.{is_plain};
 ghost use Rattle.seg_exec.specs.inner.strides.Strides.{EvaluatesTo, MayEvaluate, MayReadAt, ReadsAt, fault_ending, quotient_or};
 
 use crate::arithmetic::{decide, invert, is_true, negate, number_of, operate};

@@ -1,6 +1,6 @@
 use Rattle.std.proofs.Common.{◌≡◌, ◌<◌, true, Some, drop, length, ap, rules, ◌∙◌}
 use Rattle.twe_program.specs.Statement.{Return, Statement, statement, statements_of}
-use Rattle.seg_exec.specs.inner.strides.Plainly.{is_plain}
+use Rattle.twe_program.specs.Expression.{is_plain}
 use Rattle.seg_exec.proofs.strides.GoingOn.{next_is}
 use Rattle.seg_exec.proofs.strides.plain.plain_return.Goals as goal
 
