@@ -70,12 +70,10 @@ pub fn named_value(binding: Option<Binding>, place: Place) -> Expr
                     constant,
                 },
             ),
-        ) => Expr {
-            kind: ExprKind::Var {
-                var: number,
-                fixed: is_fixed(local_type, constant),
-            },
-        },
+        ) => Expr::new(ExprKind::Var {
+            var: number,
+            fixed: is_fixed(local_type, constant),
+        }),
         other => Expr::cell(cells_number(other), place),
     }
 }
