@@ -1,3 +1,6 @@
+pub mod Places
+pub mod Trail
+pub mod Ways
 pub mod Seeking
 pub mod Causes
 pub mod Barring
