@@ -8,3 +8,4 @@ pub mod NextTokens
 pub mod Explained
 pub mod Listing
 pub mod inner
+pub mod text_rules

@@ -1,9 +1,10 @@
 //! Why a text is refused, as data: what the rule that fails needs at its place, and what is there.
 //!
-//! Each failure of a rule on effects has a cause, which comes with a clause that it is true of the text.
+//! Each failure of a rule on effects has a cause, which comes with a clause that it is true of the text. The causes of the rules
+//! of the text are in `text_rules`.
 //!
-//! Control paths are witnesses of such causes: one to a point of a body after which a future is out, or one after which it is
-//! not, by the places of what it carries out. Which futures may be out is `cover_flow`'s.
+//! Control paths are witnesses of causes that speak of a future: one to a point of a body after which it is out, or one after
+//! which it is not, by the places of what the path carries out. Which futures may be out is `cover_flow`'s.
 #![tactic(auto)]
 
 mod alone;
@@ -22,6 +23,7 @@ mod places;
 mod reaching;
 mod searching;
 mod showing;
+pub mod text_rules;
 mod tracing;
 mod way;
 mod ways;
