@@ -1,8 +1,8 @@
 //! Laws of the parts of a text, and of what is written of them.
 ghost use Rattle.std.specs.Prelude.{◌≡◌, ℕ, List, [], Option, flat_map};
 ghost use Rattle.twe_lexer.specs.Tokens.{AreFirstLexemes};
-ghost use Rattle.summary_writing.specs.Parts.{part_bytes, parts_of};
-ghost use Rattle.summary_writing.specs.Written.{HasSummaries, written_parts};
+ghost use Rattle.summary_texts.specs.Parts.{part_bytes, parts_of};
+ghost use Rattle.summary_texts.specs.Written.{HasSummaries, written_parts};
 
 /// The parts of a text are all of its bytes, in their order. So what is written differs from the text in summaries of methods
 /// alone. If every method keeps its summary, it is the text itself.

@@ -2,11 +2,11 @@
 use Rattle.std.specs.Prelude.{◌≡◌, ℕ, ◌+◌, Bool, false, ◌||◌, List, [], ◌∷◌, ◌++◌, Option, None, Some, slice_get, if◌then◌else◌}
 use Rattle.twe_lexer.specs.Places.{is_gap}
 use Rattle.twe_lexer.specs.Tokens.{AreFirstLexemes}
-use Rattle.summary_writing.specs.declared.writer.Stage.{Stage}
-use Rattle.summary_writing.specs.declared.writer.Stage.TheVariants as stages
-use Rattle.summary_writing.specs.declared.writer.Writer.{Writer}
-use Rattle.summary_writing.specs.Parts.{begins_summary, is_brace, is_task}
-use Rattle.summary_writing.specs.Written.{kept_behind}
+use Rattle.summary_texts.specs.declared.writer.Stage.{Stage}
+use Rattle.summary_texts.specs.declared.writer.Stage.TheVariants as stages
+use Rattle.summary_texts.specs.declared.writer.Writer.{Writer}
+use Rattle.summary_texts.specs.Parts.{begins_summary, is_brace, is_task}
+use Rattle.summary_texts.specs.Written.{kept_behind}
 
 -- before the first lexeme
 abbrev pub at_start : Writer

@@ -2,7 +2,7 @@
 use Rattle.std.specs.Prelude.{◌≡◌, ℕ, Bool, List, [], ◌∷◌, ◌++◌, Option, None, Some, codes, bytes_eq, take, if◌then◌else◌, flat_map}
 use Rattle.twe_lexer.specs.Tokens.{AreFirstLexemes}
 use Rattle.twe_lexer.specs.Places.{is_gap}
-use Rattle.summary_writing.specs.Parts.{Part, MethodSummary, Around, joined_bytes, parts_of}
+use Rattle.summary_texts.specs.Parts.{Part, MethodSummary, Around, joined_bytes, parts_of}
 
 -- the lexeme is a comment, if it is no token
 abbrev pub is_comment : List ℕ → Bool

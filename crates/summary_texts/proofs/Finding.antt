@@ -8,12 +8,12 @@ use Rattle.std.proofs.lemmas.Slice.Eq.{bytes_eq-Decides}
 use Rattle.twe_lexer.specs.declared.fixed.Fixed.TheVariants as fixed
 use Rattle.twe_lexer.specs.Places.{is_gap}
 use Rattle.twe_lexer.specs.Spelling.{spelling}
-use Rattle.summary_writing.specs.declared.writer.Stage.{Stage}
-use Rattle.summary_writing.specs.declared.writer.Stage.TheVariants as stages
-use Rattle.summary_writing.specs.declared.writer.Writer.{Writer}
-use Rattle.summary_writing.specs.Parts.{begins_summary, is_brace, is_task, joined_bytes, Part, MethodSummary, Around, summary_part, parts_around, parts_in, parts_of}
-use Rattle.summary_writing.specs.Written.{is_comment, comment_behind, kept_behind, comments_behind, written_parts}
-use Rattle.summary_writing.specs.inner.Steps.{at_start, with_lexeme, after_first, after_gap, after_token, after_lexeme, after_all, whole}
+use Rattle.summary_texts.specs.declared.writer.Stage.{Stage}
+use Rattle.summary_texts.specs.declared.writer.Stage.TheVariants as stages
+use Rattle.summary_texts.specs.declared.writer.Writer.{Writer}
+use Rattle.summary_texts.specs.Parts.{begins_summary, is_brace, is_task, joined_bytes, Part, MethodSummary, Around, summary_part, parts_around, parts_in, parts_of}
+use Rattle.summary_texts.specs.Written.{is_comment, comment_behind, kept_behind, comments_behind, written_parts}
+use Rattle.summary_texts.specs.inner.Steps.{at_start, with_lexeme, after_first, after_gap, after_token, after_lexeme, after_all, whole}
 
 -- both cases of a test
 pub by_test : (P : Bool → Type 0) (b : Bool) → (b ≡ true → P true) → (b ≡ false → P false) → P b

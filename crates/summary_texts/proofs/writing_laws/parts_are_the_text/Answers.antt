@@ -1,5 +1,5 @@
-use Rattle.summary_writing.proofs.Whole.{whole_text, kept_text}
-use Rattle.summary_writing.proofs.laws.parts_are_the_text.Goals as goal
+use Rattle.summary_texts.proofs.Whole.{whole_text, kept_text}
+use Rattle.summary_texts.proofs.writing_laws.parts_are_the_text.Goals as goal
 
 pub returns-clause-whole : goal.returns-clause-whole
 returns-clause-whole c = whole_text

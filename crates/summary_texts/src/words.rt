@@ -1,7 +1,7 @@
 //! Lexemes by their bytes: the words that matter here, and comments.
 ghost use Rattle.std.specs.Prelude.{◌≡◌};
-ghost use Rattle.summary_writing.specs.Parts.{begins_summary, is_brace, is_task};
-ghost use Rattle.summary_writing.specs.Written.{is_comment, is_line_comment};
+ghost use Rattle.summary_texts.specs.Parts.{begins_summary, is_brace, is_task};
+ghost use Rattle.summary_texts.specs.Written.{is_comment, is_line_comment};
 
 /// Whether a lexeme is a word that the summary of a method or a task begins with.
 pub(crate) fn begins_summary(lexeme: &[u8]) -> bool

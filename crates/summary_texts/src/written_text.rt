@@ -3,7 +3,7 @@ ghost use Rattle.std.specs.Prelude.{IfOk};
 ghost use Rattle.twe_base.specs.declared.place.Place.{Place};
 ghost use Rattle.twe_parser.specs.declared.fail.SRule.{SRule};
 ghost use Rattle.twe_parser.specs.Fails.{Fails};
-ghost use Rattle.summary_writing.specs.Written.{HasSummaries};
+ghost use Rattle.summary_texts.specs.Written.{HasSummaries};
 
 use crate::lexemes::next_lexeme;
 use crate::writer::Writer;

@@ -12,10 +12,10 @@ use Rattle.twe_lexer.specs.Lexeme.{IsLexeme}
 use Rattle.twe_lexer.specs.Places.{is_gap}
 use Rattle.twe_lexer.specs.Tokens.{AreFirstLexemes}
 use Rattle.twe_parser.proofs.Cuts.{no_lexeme, cut_append}
-use Rattle.summary_writing.specs.declared.writer.Writer.{Writer}
-use Rattle.summary_writing.specs.inner.Steps.{at_start, after_lexeme, whole, HasTaken}
-use Rattle.summary_writing.specs.Written.{HasSummaries}
-use Rattle.summary_writing.proofs.Finding.{written_whole, after_append}
+use Rattle.summary_texts.specs.declared.writer.Writer.{Writer}
+use Rattle.summary_texts.specs.inner.Steps.{at_start, after_lexeme, whole, HasTaken}
+use Rattle.summary_texts.specs.Written.{HasSummaries}
+use Rattle.summary_texts.proofs.Finding.{written_whole, after_append}
 
 pub one_taken : (news : List (Option (List ℕ))) (text rest bytes later : List ℕ) (lexeme : Lexeme) (writer next : Writer) → HasTaken news text rest writer → Opens lexeme rest
     → bytes ≡ take lexeme.len rest → later ≡ drop lexeme.len rest → next ≡ after_lexeme news writer bytes → HasTaken news text later next

@@ -2,9 +2,9 @@ use Rattle.std.proofs.Common.{length, sym, ◌∙◌}
 use Rattle.std.proofs.lemmas.Bool.{eqb-true}
 use Rattle.std.proofs.lemmas.List.{nil_from_length}
 use Rattle.std.proofs.lemmas.Result.{IfOk-weaker}
-use Rattle.summary_writing.proofs.Accepted.{stops_never, closed_ever}
-use Rattle.summary_writing.proofs.Taking.{one_taken, taken_whole, gap_class}
-use Rattle.summary_writing.proofs.text.write_summaries.Goals as goal
+use Rattle.summary_texts.proofs.AllowedBytes.{stops_never, closed_ever}
+use Rattle.summary_texts.proofs.Taking.{one_taken, taken_whole, gap_class}
+use Rattle.summary_texts.proofs.written_text.write_summaries.Goals as goal
 
 -- in a text that fails no rule there is a next lexeme
 pub next_lexeme-requires-clause-allowed : goal.next_lexeme-requires-clause-allowed

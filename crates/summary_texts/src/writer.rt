@@ -1,6 +1,6 @@
 //! A writer: it takes the lexemes of a text in order, and writes the text with other summaries.
 ghost use Rattle.std.specs.Prelude.{◌≡◌, ◌++◌, OnOk};
-ghost use Rattle.summary_writing.specs.Written.{comment_behind};
+ghost use Rattle.summary_texts.specs.Written.{comment_behind};
 
 use crate::words::{begins_summary, is_brace, is_comment, is_line_comment, is_task};
 use std::alloc::Global;
@@ -35,8 +35,8 @@ pub(crate) struct Writer {
 impl Writer {
     ghost use Rattle.std.specs.Prelude.{◌≡◌, IfOk, OnOk, IsTrue, slice_get};
     ghost use Rattle.twe_lexer.specs.Places.{is_gap};
-    ghost use Rattle.summary_writing.specs.declared.writer.Stage.TheVariants as stages;
-    ghost use Rattle.summary_writing.specs.inner.Steps.{after_around, after_first, after_gap, after_lexeme, after_replaced, after_staying, after_token, at_start, whole, with_lexeme};
+    ghost use Rattle.summary_texts.specs.declared.writer.Stage.TheVariants as stages;
+    ghost use Rattle.summary_texts.specs.inner.Steps.{after_around, after_first, after_gap, after_lexeme, after_replaced, after_staying, after_token, at_start, whole, with_lexeme};
 
     /// Before the first lexeme.
     pub(crate) fn new(alloc: Global) -> Self

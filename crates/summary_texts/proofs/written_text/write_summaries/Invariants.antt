@@ -1,6 +1,6 @@
 use Rattle.std.proofs.Common.{length}
-use Rattle.summary_writing.specs.inner.Steps.{HasTaken}
-use Rattle.summary_writing.proofs.text.write_summaries.Given as goal
+use Rattle.summary_texts.specs.inner.Steps.{HasTaken}
+use Rattle.summary_texts.proofs.written_text.write_summaries.Given as goal
 
 abbrev pub invariant-loop-rest : goal.invariant-loop-rest
 invariant-loop-rest l = HasTaken l.news l.text l.rest l.writer

@@ -7,9 +7,9 @@ use Rattle.twe_lexer.specs.Places.{is_gap}
 use Rattle.twe_lexer.specs.Tokens.{AreFirstLexemes}
 use Rattle.twe_parser.proofs.Cuts.{no_lexeme, compare_cuts}
 use Rattle.twe_parser.proofs.Located.{empty_front}
-use Rattle.summary_writing.specs.Parts.{begins_summary, is_brace, is_task, joined_bytes, Part, MethodSummary, Around, summary_part, parts_around, parts_in, parts_of, part_bytes}
-use Rattle.summary_writing.specs.Written.{written_parts, HasSummaries}
-use Rattle.summary_writing.proofs.Finding.{by_test, joined_append}
+use Rattle.summary_texts.specs.Parts.{begins_summary, is_brace, is_task, joined_bytes, Part, MethodSummary, Around, summary_part, parts_around, parts_in, parts_of, part_bytes}
+use Rattle.summary_texts.specs.Written.{written_parts, HasSummaries}
+use Rattle.summary_texts.proofs.Finding.{by_test, joined_append}
 
 abbrev all_bytes : List Part → List ℕ
 all_bytes parts = flat_map part_bytes parts
