@@ -8,9 +8,9 @@ use Rattle.region_paths.specs.declared.elements.Elem.{Elem}
 use Rattle.region_paths.specs.Written.{WrittenPath, PathIsWellFormed}
 use Rattle.region_paths.specs.Concrete.{ConcretePath, InSet}
 use Rattle.region_paths.specs.Filled.{Valuation, under}
-use Rattle.task_matrix.specs.declared.equality.Equality.{Equality}
-use Rattle.task_matrix.specs.Equalities.{equalities_hold}
-use Rattle.task_matrix.specs.Solutions.{AreSolvedBy, NeverHold, first_by, second_by}
+use Rattle.effect_meeting.specs.declared.equality.Equality.{Equality}
+use Rattle.effect_meeting.specs.Equalities.{equalities_hold}
+use Rattle.effect_meeting.specs.Solutions.{AreSolvedBy, NeverHold, first_by, second_by}
 use Rattle.effect_meeting.specs.declared.column.Column.{Column}
 use Rattle.effect_meeting.specs.declared.values.ParamValue.{ParamValue}
 use Rattle.effect_meeting.specs.Values.{values_in}

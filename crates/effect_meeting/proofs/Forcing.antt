@@ -7,12 +7,12 @@ use Rattle.region_paths.specs.declared.elements.Elem.{Elem}
 use Rattle.region_paths.specs.declared.elements.Elem.TheVariants.{Name, Index, Var, AnyIndex}
 use Rattle.region_paths.specs.Concrete.{ConcreteElem, ConcretePath, elem_stands}
 use Rattle.region_paths.specs.Filled.{Valuation}
-use Rattle.task_matrix.specs.declared.equality.Equality.{Equality}
-use Rattle.task_matrix.specs.declared.equality.Term.{Term}
-use Rattle.task_matrix.specs.declared.equality.Term.TheVariants.{Literal, First, Second}
-use Rattle.task_matrix.specs.Equalities.{term_value}
-use Rattle.task_matrix.specs.Solving.{after_steps, is_literal}
-use Rattle.task_matrix.specs.Solutions.{first_by, plain_value, second_by, solved_value}
+use Rattle.effect_meeting.specs.declared.equality.Equality.{Equality}
+use Rattle.effect_meeting.specs.declared.equality.Term.{Term}
+use Rattle.effect_meeting.specs.declared.equality.Term.TheVariants.{Literal, First, Second}
+use Rattle.effect_meeting.specs.Equalities.{term_value}
+use Rattle.effect_meeting.specs.Solving.{after_steps, is_literal}
+use Rattle.effect_meeting.specs.Solutions.{first_by, plain_value, second_by, solved_value}
 use Rattle.effect_meeting.specs.inner.Aligned.{all_stand, one_stands, one_under}
 use Rattle.effect_meeting.specs.inner.Columns.{all_near, columns, is_near, solid_or, solved_by}
 

@@ -1,3 +1,8 @@
+-- When equalities hold, and what solves them.
+pub mod Exactness
+pub mod Solutions
+pub mod Meetings
+-- Columns of the elements of paths.
 pub mod Aligning
 pub mod Solving
 pub mod Forcing

@@ -11,11 +11,11 @@ use Rattle.region_paths.specs.Concrete.{ConcreteElem, ConcretePath, elem_stands}
 use Rattle.region_paths.specs.Apart.{clash}
 use Rattle.region_paths.specs.Filled.{Valuation, elem_under}
 use Rattle.region_paths.proofs.ElementLaws.{clash-stands, common-stands-second, example, example-stands, is_var}
-use Rattle.task_matrix.specs.declared.equality.Equality.{Equality}
-use Rattle.task_matrix.specs.declared.equality.Term.TheVariants.{First, Second}
-use Rattle.task_matrix.specs.Equalities.{equalities_hold}
-use Rattle.task_matrix.specs.PathEqualities.{equal_terms}
-use Rattle.task_matrix.proofs.Exactness.{all-two, clash-swap, elem-exact}
+use Rattle.effect_meeting.specs.declared.equality.Equality.{Equality}
+use Rattle.effect_meeting.specs.declared.equality.Term.TheVariants.{First, Second}
+use Rattle.effect_meeting.specs.Equalities.{equalities_hold}
+use Rattle.effect_meeting.specs.PathEqualities.{equal_terms}
+use Rattle.effect_meeting.proofs.Exactness.{all-two, clash-swap, elem-exact}
 use Rattle.effect_meeting.specs.declared.column.Column.{Column}
 use Rattle.effect_meeting.specs.Meeting.{AgreeBelow, as_written}
 use Rattle.effect_meeting.specs.inner.Aligned.{all_stand, one_stands, one_under}

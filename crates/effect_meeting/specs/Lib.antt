@@ -1,3 +1,9 @@
+pub mod Equalities
+pub mod PathEqualities
+pub mod Solving
+pub mod Solutions
+pub mod MeetingsOf
+pub mod Meetings
 pub mod Values
 pub mod Meeting
 pub mod Cells

@@ -1,13 +1,15 @@
 //! The elements of three paths at one position, and what has to hold for them to stand for a common one.
 ghost use Rattle.std.specs.Prelude.{◌≡◌, ◌++◌, IfOk, OnOk, map};
 ghost use Rattle.region_paths.specs.Filled.{elem_under};
-ghost use Rattle.task_matrix.specs.Solutions.{first_by, second_by};
+ghost use Rattle.effect_meeting.specs.Solutions.{first_by, second_by};
 ghost use Rattle.effect_meeting.specs.inner.Aligned.{one_under};
 ghost use Rattle.effect_meeting.specs.inner.Columns.{column_equalities, columns, pair_equalities, solid_of, solid_or, solved_by};
 
+use crate::equality::{Equalities, Equality, Term};
+use crate::path_meeting::elem_equality;
+use crate::solve::solved_value;
 use region_paths::Elem;
 use std::alloc::{AllocError, Global};
-use task_matrix::{Equalities, Equality, Term, elem_equality, solved_value};
 use twe_base::Memory;
 
 /// The elements of three paths at one position. `None` stands for anything.

@@ -3,18 +3,19 @@ ghost use Rattle.std.specs.Prelude.{◌≡◌, ◌↔◌, IfNone, IfOk, IfSome, 
 ghost use Rattle.region_paths.specs.Written.{PathIsWellFormed};
 ghost use Rattle.std.specs.List.{flat_map};
 ghost use Rattle.region_paths.specs.Filled.{Valuation};
-ghost use Rattle.task_matrix.specs.Equalities.{equalities_hold};
+ghost use Rattle.effect_meeting.specs.Equalities.{equalities_hold};
 ghost use Rattle.effect_meeting.specs.Meeting.{AgreeBelow, IsWhereMet, NeverMeet};
 ghost use Rattle.effect_meeting.specs.inner.Aligned.{has_length};
 ghost use Rattle.effect_meeting.specs.inner.Columns.{IsForcedAlong, IsMetAlong, NeverMeetAlong, all_plain, column_equalities};
 
 use crate::aligned::{anything, at_length, common_length, has_length};
 use crate::column::{Column, all_solved_by, columns, push_column};
+use crate::equality::{Equalities, Equality, Term};
 use crate::met::Met;
+use crate::solve::solution;
 use crate::values::values_by;
 use region_paths::{Elem, Elems, Path};
 use std::alloc::Global;
-use task_matrix::{Equalities, Equality, Term, solution};
 use twe_base::Memory;
 
 /// When the first variables, as many as this, have the same values in both paths.

@@ -1,12 +1,13 @@
 //! The parameters that stand in paths, with their values.
 ghost use Rattle.std.specs.Prelude.{◌≡◌, ◌∷◌, ◌++◌, [], ◌||◌, IfOk, OnOk, if◌then◌else◌};
 ghost use Rattle.std.specs.List.{list_any};
-ghost use Rattle.task_matrix.specs.Solutions.{first_by};
+ghost use Rattle.effect_meeting.specs.Solutions.{first_by};
 ghost use Rattle.effect_meeting.specs.Values.{is_variable, has_variable, values_in};
 
+use crate::equality::{Equality, Term};
+use crate::solve::solved_value;
 use region_paths::{Elem, Path};
 use std::alloc::Global;
-use task_matrix::{Equality, Term, solved_value};
 use twe_base::{List, Memory};
 
 /// A parameter of a task, and a value of it.

@@ -9,7 +9,7 @@ use Rattle.twe_frontend.specs.Reads.{IsTextFailure}
 use Rattle.twe_parser.specs.declared.fail.SRule.{SRule}
 use Rattle.twe_parser.specs.declared.fail.SRule.TheVariants.{S1, S2, S3, S4, S5, S6}
 use Rattle.refusal_causes.specs.NextTokens.{BeginsAProgram, Decides, is_of_end}
-use Rattle.text_causes.specs.Causes.{has_cause}
+use Rattle.refusal_causes.specs.text_rules.Causes.{has_cause}
 use Rattle.refusal_causes.specs.Explained.{is_of_tokens}
 
 pub text_refused : (text : List ℕ) (rule : RuleName) (place : Place) → IsTextFailure text rule place

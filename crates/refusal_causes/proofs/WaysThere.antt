@@ -3,7 +3,7 @@ use Rattle.std.proofs.Common.{ℕ, true, false, inl, inr}
 use Rattle.twe_program.specs.declared.program.Body.{Body}
 use Rattle.cover_flow.specs.Out.{out_after, MayBeOut, SurelyOut}
 use Rattle.cover_flow.proofs.FactLaws.{both}
-use Rattle.control_ways.specs.Ways.{IsOnNone}
+use Rattle.refusal_causes.specs.Ways.{IsOnNone}
 
 pub may_show : (body : Body) (point future : ℕ) → MayBeOut body point future → ¬ IsOnNone body point future true
 may_show body point future some none = none some.0 some.1 some.2

@@ -9,8 +9,8 @@ use Rattle.twe_program.specs.declared.program.Body.{Body}
 use Rattle.twe_program.specs.declared.program.Decl.{Decl}
 use Rattle.twe_program.specs.Program.{Program}
 use Rattle.cover_flow.specs.Out.{MayBeOut, SurelyOut}
-use Rattle.control_ways.specs.declared.way.Way.{Way}
-use Rattle.control_ways.specs.Ways.{IsWay}
+use Rattle.refusal_causes.specs.declared.way.Way.{Way}
+use Rattle.refusal_causes.specs.Ways.{IsWay}
 use Rattle.effect_check.specs.declared.act.ActKind.{ActKind}
 use Rattle.effect_check.specs.declared.act.ActKind.TheVariants.{Touch, Call, Make, Wait}
 use Rattle.effect_check.specs.declared.rule.ERule.{ERule}

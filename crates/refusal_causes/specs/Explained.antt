@@ -11,8 +11,8 @@ use Rattle.twe_frontend.specs.declared.refusal.Refusal.{Refusal}
 use Rattle.twe_frontend.specs.declared.refusal.RuleName.{RuleName}
 use Rattle.twe_frontend.specs.declared.refusal.RuleName.TheVariants.{Text, Name, Effect}
 use Rattle.twe_frontend.specs.Accepted.{Accepted, IsMeaningOf, IsRefusal, IsTreeOf}
-use Rattle.text_causes.specs.declared.cause.TextCause.{TextCause}
-use Rattle.text_causes.specs.Causes.{IsTextCause}
+use Rattle.refusal_causes.specs.declared.text_rules.cause.TextCause.{TextCause}
+use Rattle.refusal_causes.specs.text_rules.Causes.{IsTextCause}
 use Rattle.refusal_causes.specs.declared.cause.RuleCause.{RuleCause}
 use Rattle.refusal_causes.specs.declared.explained.Explained.{Explained}
 use Rattle.refusal_causes.specs.declared.explained.Explained.TheVariants.{Kept, Early, Stray, Named, Late}

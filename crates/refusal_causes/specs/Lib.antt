@@ -1,3 +1,6 @@
+pub mod Places
+pub mod Trail
+pub mod Ways
 pub mod Seeking
 pub mod Causes
 pub mod Barring
@@ -5,3 +8,4 @@ pub mod NextTokens
 pub mod Explained
 pub mod Listing
 pub mod inner
+pub mod text_rules

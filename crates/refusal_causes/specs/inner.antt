@@ -1,3 +1,6 @@
 pub mod Keeping
 pub mod Found
 pub mod Listed
+pub mod KeptPlaces
+pub mod Traced
+pub mod Reached

@@ -10,7 +10,7 @@ ghost use Rattle.refusal_causes.specs.Barring.{IsFutureBar, IsPair, IsSpawnBar};
 ghost use Rattle.refusal_causes.specs.inner.Keeping.{AreFreeOf, BarsNone, IsDone, IsFollowed, IsFreeOf, IsNoBar};
 
 use crate::showing::way_if;
-use control_ways::Way;
+use crate::way::Way;
 use cover_flow::{Points, flow};
 use effect_check::{Act, ActKind};
 use effect_sets::{Effect, Summary, interferes};

@@ -1,6 +1,6 @@
 //! The cause of a failure.
 
-use control_ways::Way;
+use crate::way::Way;
 use effect_sets::{Effect, Summary};
 use twe_base::Place;
 

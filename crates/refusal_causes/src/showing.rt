@@ -1,8 +1,9 @@
 //! Ways that show why a rule fails, if they are wanted.
-ghost use Rattle.control_ways.specs.Ways.{IsOnNone};
+ghost use Rattle.refusal_causes.specs.Ways.{IsOnNone};
 ghost use Rattle.refusal_causes.specs.Causes.{IsWayIf};
 
-use control_ways::{Way, way_to};
+use crate::answer::way_to;
+use crate::way::Way;
 use twe_program::Body;
 
 /// A way to the point on which the future is out or, if `out` is false, is not: if ways are wanted. There is one.

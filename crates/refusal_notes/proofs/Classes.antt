@@ -4,7 +4,7 @@ use Rattle.std.proofs.lemmas.Bool.{false≢true}
 use Rattle.twe_frontend.specs.declared.refusal.RuleName.{RuleName}
 use Rattle.twe_frontend.specs.declared.refusal.RuleName.TheVariants.{Text, Name, Effect}
 use Rattle.twe_base.specs.declared.place.Place.{Place}
-use Rattle.text_causes.specs.declared.cause.TextCause.{TextCause}
+use Rattle.refusal_causes.specs.declared.text_rules.cause.TextCause.{TextCause}
 use Rattle.refusal_causes.specs.Explained.{IsTextCauseOf, is_of_effects, is_of_names, is_of_tokens}
 
 pub of_text : (text : List ℕ) (rule : RuleName) (place : Place) (cause : TextCause) → IsTextCauseOf text rule place cause → is_of_effects rule ≡ false

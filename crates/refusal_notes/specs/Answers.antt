@@ -1,7 +1,7 @@
 -- What the program answers to a text.
 use Rattle.std.specs.Prelude.{◌≡◌, ℕ, true, false, List}
 use Rattle.twe_base.specs.declared.place.Place.{Place}
-use Rattle.text_causes.specs.Open.{AreOpenAt}
+use Rattle.refusal_causes.specs.text_rules.Open.{AreOpenAt}
 use Rattle.twe_ast.specs.declared.item.Ast.{Ast}
 use Rattle.twe_ast.specs.declared.name.Name.{Name}
 use Rattle.twe_program.specs.Program.{Program}
@@ -10,7 +10,7 @@ use Rattle.twe_frontend.specs.Accepted.{Accepted, IsRefusal, IsTreeOf}
 use Rattle.refusal_causes.specs.declared.cause.RuleCause.{RuleCause}
 use Rattle.refusal_causes.specs.declared.next_tokens.NextToken.{NextToken}
 use Rattle.name_needs.specs.declared.need.NameNeed.{NameNeed}
-use Rattle.text_causes.specs.declared.cause.TextCause.{TextCause}
+use Rattle.refusal_causes.specs.declared.text_rules.cause.TextCause.{TextCause}
 use Rattle.refusal_causes.specs.Explained.{IsCausedBy, IsNameCauseOf, IsTextCauseOf, is_of_names, is_of_tokens}
 use Rattle.refusal_causes.specs.NextTokens.{AreNextAt, is_of_end}
 use Rattle.twe_report.specs.Texts.{accepted_text}

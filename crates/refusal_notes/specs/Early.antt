@@ -2,8 +2,8 @@
 use Rattle.std.specs.Prelude.{ℕ, ◌+◌, List, [], ◌∷◌, ◌++◌, codes, decimal}
 use Rattle.twe_base.specs.Language.{max_literal, max_open_brackets, max_operators}
 use Rattle.twe_frontend.specs.declared.refusal.Refusal.{Refusal}
-use Rattle.text_causes.specs.declared.cause.TextCause.{TextCause}
-use Rattle.text_causes.specs.declared.cause.TextCause.TheVariants as causes
+use Rattle.refusal_causes.specs.declared.text_rules.cause.TextCause.{TextCause}
+use Rattle.refusal_causes.specs.declared.text_rules.cause.TextCause.TheVariants as causes
 use Rattle.name_notes.specs.Sentences.{asked, wrong}
 use Rattle.place_notes.specs.Excerpt.{shown_byte}
 use Rattle.place_notes.specs.Notes.{note_at}

@@ -4,7 +4,7 @@ use Rattle.twe_base.specs.declared.place.Place.{Place}
 use Rattle.effect_sets.specs.declared.effects.Effect.{Effect}
 use Rattle.twe_ast.specs.declared.name.Name as written
 use Rattle.text_meaning.specs.EffectTexts.{effect_text, effects_text}
-use Rattle.control_ways.specs.declared.way.Way.{Way}
+use Rattle.refusal_causes.specs.declared.way.Way.{Way}
 use Rattle.twe_frontend.specs.declared.refusal.Refusal.{Refusal}
 use Rattle.refusal_causes.specs.declared.cause.RuleCause.{RuleCause}
 use Rattle.refusal_causes.specs.declared.cause.RuleCause.TheVariants.{Undeclared, Out, NotOut, OutAgain, OrderOpen, NotDeterministic}

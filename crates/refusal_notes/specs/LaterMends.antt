@@ -2,7 +2,7 @@
 use Rattle.std.specs.Prelude.{ℕ, Bool, List, [], ◌∷◌, ◌++◌, drop, codes, decimal, if◌then◌else◌}
 use Rattle.twe_base.specs.declared.place.Place.{Place}
 use Rattle.place_notes.specs.WordAt.{word_at}
-use Rattle.text_causes.specs.Behind.{from_place}
+use Rattle.refusal_causes.specs.text_rules.Behind.{from_place}
 use Rattle.refusal_notes.specs.declared.mends.Mend.{Mend}
 use Rattle.refusal_notes.specs.Edits.{begins_with, from_first, with_end}
 

@@ -12,7 +12,7 @@ use Rattle.refusal_causes.specs.declared.cause.RuleCause.{RuleCause}
 use Rattle.refusal_causes.specs.declared.cause.RuleCause.TheVariants.{Undeclared, Out, NotOut, OutAgain, OrderOpen, NotDeterministic}
 use Rattle.refusal_notes.specs.declared.mends.Mend.{Mend}
 use Rattle.place_notes.specs.WordAt.{word_at}
-use Rattle.text_causes.specs.Behind.{from_place}
+use Rattle.refusal_causes.specs.text_rules.Behind.{from_place}
 use Rattle.refusal_notes.specs.Edits.{from_first, from_statement, with_end, without_first}
 use Rattle.refusal_notes.specs.LaterMends.{later_mend, later_mends}
 

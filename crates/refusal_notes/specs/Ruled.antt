@@ -1,7 +1,7 @@
 -- What is said of a rule on joins, spawns or deterministic tasks that fails.
 use Rattle.std.specs.Prelude.{ℕ, Bool, List, [], ◌∷◌, ◌++◌, Option, None, Some, codes, if◌then◌else◌}
 use Rattle.twe_base.specs.declared.place.Place.{Place}
-use Rattle.control_ways.specs.declared.way.Way.{Way}
+use Rattle.refusal_causes.specs.declared.way.Way.{Way}
 use Rattle.twe_frontend.specs.declared.refusal.Refusal.{Refusal}
 use Rattle.place_notes.specs.declared.note.Explanation.{Explanation}
 use Rattle.place_notes.specs.declared.note.Note.{Note}

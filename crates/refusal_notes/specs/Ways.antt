@@ -1,11 +1,11 @@
 -- What is said of a way.
 use Rattle.std.specs.Prelude.{ℕ, nat_lt, if◌then◌else◌, List, [], ◌∷◌, ◌++◌, Option, None, Some, codes}
 use Rattle.twe_base.specs.declared.place.Place.{Place}
-use Rattle.control_ways.specs.declared.places.Four.{Four}
-use Rattle.control_ways.specs.declared.places.KeptPlaces.{KeptPlaces}
-use Rattle.control_ways.specs.declared.way.Begins.{Begins}
-use Rattle.control_ways.specs.declared.way.Begins.TheVariants.{Start, Spawn, Join}
-use Rattle.control_ways.specs.declared.way.Way.{Way}
+use Rattle.refusal_causes.specs.declared.places.Four.{Four}
+use Rattle.refusal_causes.specs.declared.places.KeptPlaces.{KeptPlaces}
+use Rattle.refusal_causes.specs.declared.way.Begins.{Begins}
+use Rattle.refusal_causes.specs.declared.way.Begins.TheVariants.{Start, Spawn, Join}
+use Rattle.refusal_causes.specs.declared.way.Way.{Way}
 use Rattle.twe_report.specs.Texts.{place_text}
 
 -- the place, if there is one

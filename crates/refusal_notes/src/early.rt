@@ -7,8 +7,8 @@ ghost use Rattle.refusal_notes.specs.Early.{count_words, early_explanation, text
 use itoa::Buffer;
 use name_notes::{asked, wrong};
 use place_notes::{Explanation, Note, push_shown};
+use refusal_causes::text_rules::TextCause;
 use std::alloc::Global;
-use text_causes::TextCause;
 use twe_base::{Bytes, List, MAX_LITERAL, MAX_OPEN_BRACKETS, MAX_OPERATORS, Memory};
 use twe_frontend::Refusal;
 

@@ -3,7 +3,7 @@ ghost use Rattle.std.specs.Prelude.{◌≡◌, ◌++◌, ◌∷◌, [], codes, I
 ghost use Rattle.text_meaning.specs.EffectTexts.{effect_text};
 ghost use Rattle.twe_frontend.specs.Accepted.{Accepted, IsRefusal};
 ghost use Rattle.place_notes.specs.WordAt.{word_at};
-ghost use Rattle.text_causes.specs.Behind.{from_place};
+ghost use Rattle.refusal_causes.specs.text_rules.Behind.{from_place};
 ghost use Rattle.refusal_notes.specs.Edits.{from_first, from_statement, without_first};
 ghost use Rattle.refusal_notes.specs.Mends.{AreTried, IsTried, TellsAcceptance, declared_mend, effect_mend, effect_said, has_join, is_left, join_mend, join_said, join_text, mend_remark, mends_for, moved_join_mend, out_mends, pure_mend};
 
@@ -13,8 +13,8 @@ use effect_sets::Effect;
 use itoa::Buffer;
 use place_notes::{after_bytes, word_at};
 use refusal_causes::RuleCause;
+use refusal_causes::text_rules::from_place;
 use std::alloc::Global;
-use text_causes::from_place;
 use text_meaning::push_effect;
 use twe_ast::Name;
 use twe_base::{Bytes, List, MAX_TEXT_BYTES, Memory, Place, Word};

@@ -4,9 +4,9 @@ ghost use Rattle.place_notes.specs.Notes.{note_at};
 ghost use Rattle.refusal_notes.specs.Ruled.{child_explanation, join_explanation, join_notes, order_caption, order_explanation, ruled_explanation, spawn_explanation, strict_explanation};
 
 use crate::ways::tell_way;
-use control_ways::Way;
 use name_notes::{asked, wrong};
 use place_notes::{Explanation, Note};
+use refusal_causes::Way;
 use std::alloc::Global;
 use twe_base::{Bytes, List, Memory, Place};
 use twe_frontend::Refusal;

@@ -3,8 +3,8 @@ ghost use Rattle.std.specs.Prelude.{◌≡◌, ◌++◌, IfOk, OnOk};
 ghost use Rattle.twe_report.specs.Texts.{place_text};
 ghost use Rattle.refusal_notes.specs.Ways.{dots_text, first_text, four_text, heading_text, last_text, next_text, out_reason, way_places_text, way_remarks, way_text};
 
-use control_ways::{Begins, Four, KeptPlaces, Way};
 use itoa::Buffer;
+use refusal_causes::{Begins, Four, KeptPlaces, Way};
 use std::alloc::Global;
 use twe_base::{Bytes, List, Memory, Place};
 

@@ -26,8 +26,8 @@ use Rattle.twe_program.specs.declared.program.Decl.{Decl}
 use Rattle.effect_check.specs.declared.act.Act.{Act}
 use Rattle.effect_check.specs.Acts.{acts_in_all}
 use Rattle.effect_infer.specs.needs.Steps.{steps_in_all}
-use Rattle.need_chains.specs.Placed.{step_places}
-use Rattle.need_chains.proofs.Places.{body-place}
+use Rattle.summary_comparing.specs.Placed.{step_places}
+use Rattle.summary_comparing.proofs.Places.{body-place}
 use Rattle.summary_comparing.specs.Needed.{body_needs, child_needs, said_spawn}
 use Rattle.summary_comparing.specs.Chained.{IsNeedChain, IsSpawnPlace, act_place}
 use Rattle.summary_comparing.specs.inner.Sources.{acts_before, steps_before}

@@ -1,3 +1,11 @@
+-- The search for a chain of calls.
+pub mod Elements
+pub mod Carried
+pub mod Places
+pub mod Linked
+pub mod Complete
+pub mod Walking
+-- What is declared, beside what is needed.
 pub mod Covers
 pub mod Tops
 pub mod Keeping

@@ -5,8 +5,8 @@ use Rattle.twe_base.proofs.Members.{not-true}
 use Rattle.region_paths.specs.declared.elements.Elem.{Elem}
 use Rattle.region_paths.specs.Written.{WrittenPath}
 use Rattle.effect_sets.specs.declared.effects.Effect.{Effect}
-use Rattle.need_chains.specs.inner.Standing.{same_elem, same_truth}
-use Rattle.need_chains.proofs.Elements.{same-elem-eq, same-elem-refl}
+use Rattle.summary_comparing.specs.inner.Standing.{same_elem, same_truth}
+use Rattle.summary_comparing.proofs.Elements.{same-elem-eq, same-elem-refl}
 use Rattle.summary_comparing.specs.inner.SameEffects.{same_effect, same_elems, same_path}
 
 truth-refl : (a : Bool) → same_truth a a ≡ true

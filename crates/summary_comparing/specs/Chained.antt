@@ -15,8 +15,8 @@ use Rattle.effect_infer.specs.declared.needs.need.Need.{Need}
 use Rattle.effect_infer.specs.declared.needs.need.Step.{Step}
 use Rattle.effect_infer.specs.declared.needs.need.Step.TheVariants.{Touch, Call}
 use Rattle.effect_infer.specs.needs.Needs.{IsNeed, effect_of}
-use Rattle.need_chains.specs.Chains.{LeadsToNeed}
-use Rattle.need_chains.specs.Placed.{HasStepAt}
+use Rattle.summary_comparing.specs.Chains.{LeadsToNeed}
+use Rattle.summary_comparing.specs.Placed.{HasStepAt}
 use Rattle.summary_comparing.specs.Needed.{said_effect, said_spawn}
 use Rattle.summary_comparing.specs.Widest.{AreFewWidest}
 use Rattle.summary_comparing.specs.Needed as needs

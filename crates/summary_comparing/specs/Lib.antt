@@ -1,3 +1,5 @@
+pub mod Placed
+pub mod Chains
 pub mod Counted
 pub mod Needed
 pub mod Widest

@@ -11,6 +11,7 @@ ghost use Rattle.summary_comparing.specs.Needed.{body_needs, child_needs};
 ghost use Rattle.summary_comparing.specs.Widest.{AreFewWidest};
 ghost use Rattle.summary_comparing.specs.inner.Differing.{HaveSame};
 
+use crate::bodies::bodies_of;
 use crate::chain::{NeedChain, chains_of};
 use crate::chain_lines::{push_need_lines, push_spawn_lines};
 use crate::comparing::comparison_of;
@@ -24,7 +25,6 @@ use crate::needed::{body_needs, child_needs};
 use crate::spawned::spawn_places;
 use crate::widest::few_widest;
 use effect_sets::{Effect, Summary};
-use need_chains::bodies_of;
 use std::alloc::Global;
 use twe_ast::{Ast, Decl};
 use twe_base::{Bytes, Memory, Place, Word};

@@ -8,8 +8,8 @@ ghost use Rattle.summary_comparing.specs.inner.SameEffects.{same_effect, same_el
 ghost use Rattle.summary_comparing.specs.inner.Sources.{has_effect};
 
 use crate::said::said_elem;
+use crate::standing::{same_elem, same_truth};
 use effect_sets::Effect;
-use need_chains::{same_elem, same_truth};
 use region_paths::Elem;
 
 /// The argument for a parameter. Everything else stays.

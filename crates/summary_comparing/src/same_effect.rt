@@ -2,8 +2,8 @@
 ghost use Rattle.std.specs.Prelude.{◌≡◌};
 ghost use Rattle.summary_comparing.specs.inner.SameEffects.{same_effect, same_elems, same_path};
 
+use crate::standing::{same_elem, same_truth};
 use effect_sets::Effect;
-use need_chains::{same_elem, same_truth};
 use region_paths::{Elem, Path};
 
 /// Whether the elements are equal, one by one. Each call is for elements fewer, of which a path has at most 32.

@@ -5,10 +5,10 @@ ghost use Rattle.effect_sets.specs.declared.effects.Effect.{Effect as WideEffect
 ghost use Rattle.summary_comparing.specs.Needed.{child_needs};
 ghost use Rattle.summary_comparing.specs.Chained.{AreEach, IsSpawnPlace, act_place};
 
+use crate::bodies::Places;
 use crate::sources::acts_before;
 use effect_check::{Act, ActKind, acts_of_body};
 use effect_sets::Effect;
-use need_chains::Places;
 use std::alloc::Global;
 use twe_base::{Memory, Place};
 use twe_program::{Decl, Prog};

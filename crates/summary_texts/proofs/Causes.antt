@@ -15,7 +15,7 @@ use Rattle.twe_program.specs.Program.{Program}
 use Rattle.twe_names.specs.Meaning.{program_of}
 use Rattle.ast_printer.specs.ItemTokens.{printed_tokens}
 use Rattle.text_meaning.specs.Meaning.{TextMeans}
-use Rattle.summary_writing.specs.Written.{HasSummaries}
+use Rattle.summary_texts.specs.Written.{HasSummaries}
 use Rattle.summary_texts.specs.News.{bytes_of_new, bytes_of_news, new_of, news_of}
 use Rattle.summary_texts.specs.declared.fail.PasteFail.{PasteFail}
 use Rattle.summary_texts.specs.declared.fail.PasteFail.TheVariants.{TooLong, Differs, OutOfMemory}

@@ -1,3 +1,9 @@
+-- Bytes and lexemes: the text with other summaries.
+pub mod AllowedBytes
+pub mod Finding
+pub mod Taking
+pub mod Whole
+-- Clauses, trees, and what is read again.
 pub mod Accepted
 pub mod Ascending
 pub mod Blanks

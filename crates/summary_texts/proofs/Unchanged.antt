@@ -14,8 +14,8 @@ use Rattle.pasting_laws.specs.places.Places.{SameButPlaces}
 use Rattle.pasting_laws.specs.Clauses.{pasted, pasted_items}
 use Rattle.pasting_laws.specs.Pasted.{IsPasted}
 use Rattle.text_meaning.specs.Meaning.{TextMeans}
-use Rattle.summary_writing.specs.Written.{HasSummaries}
-use Rattle.summary_writing.proofs.Whole.{one_text}
+use Rattle.summary_texts.specs.Written.{HasSummaries}
+use Rattle.summary_texts.proofs.Whole.{one_text}
 use Rattle.summary_texts.specs.Pasting.{in_line}
 use Rattle.summary_texts.proofs.OneLine.{not-least, same-clause}
 use Rattle.summary_texts.proofs.SameTree.{OneTree, same_tree}

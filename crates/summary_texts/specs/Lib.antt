@@ -1,3 +1,5 @@
+pub mod Parts
+pub mod Written
 pub mod Items
 pub mod News
 pub mod Order

@@ -6,12 +6,12 @@ use Rattle.std.proofs.lemmas.Bool.{false≢true}
 use Rattle.twe_base.proofs.Members.{IsIn, contains-in, in-contains}
 use Rattle.region_paths.specs.Filled.{Valuation}
 use Rattle.effect_sets.specs.declared.effects.Effect.{Effect}
-use Rattle.task_matrix.specs.declared.equality.Equality.{Equality}
-use Rattle.task_matrix.specs.declared.meeting.Meeting.{Meeting}
-use Rattle.task_matrix.specs.Equalities.{equalities_hold}
-use Rattle.task_matrix.specs.Meetings.{AreMeetings, SomeInterfereUnder}
-use Rattle.task_matrix.specs.MeetingsOf.{meetings_of}
-use Rattle.task_matrix.proofs.Meetings.{are-meetings}
+use Rattle.effect_meeting.specs.declared.equality.Equality.{Equality}
+use Rattle.effect_meeting.specs.declared.all_meetings.Meeting.{Meeting}
+use Rattle.effect_meeting.specs.Equalities.{equalities_hold}
+use Rattle.effect_meeting.specs.Meetings.{AreMeetings, SomeInterfereUnder}
+use Rattle.effect_meeting.specs.MeetingsOf.{meetings_of}
+use Rattle.effect_meeting.proofs.Meetings.{are-meetings}
 use Rattle.twe_annotate.specs.Texts.{always_place, first_always, holds_always}
 use Rattle.twe_annotate.specs.Verdicts.{AlwaysMeet, SomeMeet, SomeMeetingHolds}
 

@@ -8,11 +8,11 @@ use Rattle.twe_ast.specs.declared.item.Item.{Item}
 use Rattle.twe_ast.specs.declared.item.Item.TheVariants.{Regions, Cell, Method, Task}
 use Rattle.twe_program.specs.declared.program.Decl.{Decl}
 use Rattle.text_meaning.specs.PathTexts.{parameter_at, starred_path_text}
-use Rattle.task_matrix.specs.declared.equality.Term.{Term}
-use Rattle.task_matrix.specs.declared.equality.Term.TheVariants.{Literal, First, Second}
-use Rattle.task_matrix.specs.declared.equality.Equality.{Equality}
-use Rattle.task_matrix.specs.declared.meeting.Meeting.{Meeting}
-use Rattle.task_matrix.specs.MeetingsOf.{meetings_of}
+use Rattle.effect_meeting.specs.declared.equality.Term.{Term}
+use Rattle.effect_meeting.specs.declared.equality.Term.TheVariants.{Literal, First, Second}
+use Rattle.effect_meeting.specs.declared.equality.Equality.{Equality}
+use Rattle.effect_meeting.specs.declared.all_meetings.Meeting.{Meeting}
+use Rattle.effect_meeting.specs.MeetingsOf.{meetings_of}
 
 -- a literal, a parameter of the first declaration, or one of the second, with a prime after its name
 abbrev pub term_text : List written.Name → List written.Name → Term → List ℕ

@@ -2,9 +2,9 @@
 use Rattle.std.specs.Prelude.{◌≡◌, List, Contains, IsTrue}
 use Rattle.region_paths.specs.Filled.{Valuation}
 use Rattle.effect_sets.specs.declared.effects.Effect.{Effect}
-use Rattle.task_matrix.specs.declared.meeting.Meeting.{Meeting}
-use Rattle.task_matrix.specs.Equalities.{equalities_hold}
-use Rattle.task_matrix.specs.Meetings.{InterfereUnder, SomeInterfereUnder}
+use Rattle.effect_meeting.specs.declared.all_meetings.Meeting.{Meeting}
+use Rattle.effect_meeting.specs.Equalities.{equalities_hold}
+use Rattle.effect_meeting.specs.Meetings.{InterfereUnder, SomeInterfereUnder}
 
 -- for these values the equalities of one of the meetings all hold
 abbrev pub SomeMeetingHolds : Valuation → Valuation → List Meeting → Type 0

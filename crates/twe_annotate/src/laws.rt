@@ -4,9 +4,9 @@ ghost use Rattle.std.specs.Prelude.{◌≡◌, ◌↔◌, ℕ, List, [], Option,
 ghost use Rattle.std.specs.List.{list_all};
 ghost use Rattle.region_paths.specs.Filled.{Valuation};
 ghost use Rattle.effect_sets.specs.declared.effects.Effect.{Effect};
-ghost use Rattle.task_matrix.specs.declared.meeting.Meeting.{Meeting};
-ghost use Rattle.task_matrix.specs.Meetings.{SomeInterfereUnder};
-ghost use Rattle.task_matrix.specs.MeetingsOf.{meetings_of};
+ghost use Rattle.effect_meeting.specs.declared.all_meetings.Meeting.{Meeting};
+ghost use Rattle.effect_meeting.specs.Meetings.{SomeInterfereUnder};
+ghost use Rattle.effect_meeting.specs.MeetingsOf.{meetings_of};
 ghost use Rattle.twe_annotate.specs.Texts.{first_always};
 ghost use Rattle.effect_sets.specs.declared.effects.Summary.{Summary};
 ghost use Rattle.twe_ast.specs.declared.item.Ast.{Ast};

@@ -3,9 +3,9 @@ ghost use Rattle.std.specs.Prelude.{◌≡◌, ◌++◌, IfOk, OnOk};
 ghost use Rattle.twe_annotate.specs.Texts.{matrix_lines, pair_line, row_lines};
 
 use crate::text::push_verdict;
+use effect_meeting::meetings_between;
 use effect_sets::Summary;
 use std::alloc::Global;
-use task_matrix::meetings_between;
 use twe_ast::{Decl, Item};
 use twe_base::{Bytes, Memory, Word};
 use twe_program::Decl as Resolved;

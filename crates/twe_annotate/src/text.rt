@@ -4,10 +4,10 @@ ghost use Rattle.twe_annotate.specs.Texts.{always_place, always_text, equalities
 ghost use Rattle.text_meaning.specs.PathTexts.{starred_path_text};
 ghost use Rattle.twe_annotate.specs.Texts as texts;
 
+use effect_meeting::{Equality, Meeting, Term};
 use itoa::Buffer;
 use region_paths::Path;
 use std::alloc::Global;
-use task_matrix::{Equality, Meeting, Term};
 use text_meaning::{push_parameter, push_starred_path};
 use twe_ast::Name;
 use twe_base::{Bytes, Memory, Word};

@@ -6,9 +6,9 @@ use Rattle.region_paths.specs.declared.elements.Elem.{Elem}
 use Rattle.region_paths.specs.declared.elements.Elem.TheVariants.{Name, Index, Var, AnyIndex}
 use Rattle.region_paths.specs.Written.{WrittenPath}
 use Rattle.region_paths.specs.Concrete.{ConcreteElem, ConcretePath, elem_stands}
-use Rattle.task_matrix.specs.declared.equality.Equality.{Equality}
-use Rattle.task_matrix.specs.PathEqualities.{elem_equality}
-use Rattle.task_matrix.specs.Solutions.{first_by, second_by}
+use Rattle.effect_meeting.specs.declared.equality.Equality.{Equality}
+use Rattle.effect_meeting.specs.PathEqualities.{elem_equality}
+use Rattle.effect_meeting.specs.Solutions.{first_by, second_by}
 use Rattle.effect_meeting.specs.declared.column.Column.{Column}
 use Rattle.effect_meeting.specs.declared.met.Met.{Met}
 use Rattle.effect_meeting.specs.Meeting.{IsMetFor, MeetAt, as_written}

@@ -3,7 +3,7 @@ use Rattle.std.specs.Prelude.{◌&&◌, Bool, true, false, List, [], ◌∷◌}
 use Rattle.region_paths.specs.declared.elements.Elem.{Elem}
 use Rattle.region_paths.specs.Written.{WrittenPath}
 use Rattle.effect_sets.specs.declared.effects.Effect.{Effect}
-use Rattle.need_chains.specs.inner.Standing.{same_elem, same_truth}
+use Rattle.summary_comparing.specs.inner.Standing.{same_elem, same_truth}
 
 -- the elements are equal, one by one
 abbrev pub same_elems : List Elem → List Elem → Bool

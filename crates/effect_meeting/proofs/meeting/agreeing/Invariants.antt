@@ -1,6 +1,6 @@
 use Rattle.std.proofs.Common.{◌↔◌, IsTrue}
 use Rattle.region_paths.specs.Filled.{Valuation}
-use Rattle.task_matrix.specs.Equalities.{equalities_hold}
+use Rattle.effect_meeting.specs.Equalities.{equalities_hold}
 use Rattle.effect_meeting.specs.Meeting.{AgreeBelow}
 use Rattle.effect_meeting.proofs.meeting.agreeing.Given as goal
 

@@ -2,9 +2,9 @@ use Rattle.std.proofs.Common.{◌≡◌, ◌↔◌, IsTrue, Option, List, IfNone
 use Rattle.std.specs.List.{flat_map}
 use Rattle.region_paths.specs.declared.elements.Elem.{Elem}
 use Rattle.region_paths.specs.Filled.{Valuation}
-use Rattle.task_matrix.specs.declared.equality.Equality.{Equality}
-use Rattle.task_matrix.specs.Equalities.{equalities_hold}
-use Rattle.task_matrix.specs.Solutions.{AreSolvedBy, NeverHold, first_by}
+use Rattle.effect_meeting.specs.declared.equality.Equality.{Equality}
+use Rattle.effect_meeting.specs.Equalities.{equalities_hold}
+use Rattle.effect_meeting.specs.Solutions.{AreSolvedBy, NeverHold, first_by}
 use Rattle.effect_meeting.specs.declared.column.Column.{Column}
 use Rattle.effect_meeting.specs.declared.values.ParamValue.{ParamValue}
 use Rattle.effect_meeting.specs.Values.{values_in}

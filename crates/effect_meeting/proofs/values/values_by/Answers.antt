@@ -1,7 +1,7 @@
 use Rattle.std.proofs.Common.{Bool, arith}
 use Rattle.std.specs.Prelude.{◌||◌}
 use Rattle.std.proofs.lemmas.List.FromFn.{filter_of_map_range_with_len_more}
-use Rattle.task_matrix.specs.Solutions.{first_by}
+use Rattle.effect_meeting.specs.Solutions.{first_by}
 use Rattle.effect_meeting.specs.declared.values.ParamValue.{ParamValue}
 use Rattle.effect_meeting.specs.Values.{has_variable, param_with_value}
 use Rattle.effect_meeting.proofs.values.values_by.Goals as goal

@@ -1,5 +1,5 @@
 use Rattle.std.proofs.Common.{◌≡◌}
-use Rattle.task_matrix.specs.Solutions.{first_by}
+use Rattle.effect_meeting.specs.Solutions.{first_by}
 use Rattle.effect_meeting.specs.Values.{values_in}
 use Rattle.effect_meeting.proofs.values.values_by.Given as goal
 

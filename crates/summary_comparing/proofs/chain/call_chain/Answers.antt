@@ -4,7 +4,7 @@ use Rattle.twe_base.specs.declared.place.Place.{Place}
 use Rattle.summary_comparing.specs.Chained.{IsCallChain, chain_to_access}
 use Rattle.effect_infer.specs.declared.needs.need.Need.{Need}
 use Rattle.effect_infer.specs.needs.Needs.{effect_of}
-use Rattle.need_chains.specs.Chains.{LeadsToNeed}
+use Rattle.summary_comparing.specs.Chains.{LeadsToNeed}
 use Rattle.summary_comparing.proofs.Compared.{when-none, when-some}
 use Rattle.summary_comparing.proofs.chain.call_chain.Goals as goal
 

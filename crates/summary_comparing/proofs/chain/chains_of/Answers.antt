@@ -1,7 +1,7 @@
 use Rattle.std.proofs.Common.{◌≡◌, ◌∷◌, [], ◌++◌, List, get_or, take, sym, ap, ◌∙◌, subst}
 use Rattle.std.proofs.lemmas.List.{take_more}
 use Rattle.effect_sets.specs.declared.effects.Effect.{Effect}
-use Rattle.need_chains.specs.declared.bodies.BodySteps.{BodySteps}
+use Rattle.summary_comparing.specs.declared.bodies.BodySteps.{BodySteps}
 use Rattle.summary_comparing.specs.Chained.{AreEach, IsNeedChain}
 use Rattle.summary_comparing.specs.inner.Differing.{HasEach}
 use Rattle.summary_comparing.proofs.Chained.{each-more}

@@ -1,4 +1,0 @@
-pub mod Places
-pub mod Trail
-pub mod Ways
-pub mod inner

@@ -1,9 +1,0 @@
-use Rattle.need_chains.specs.inner.Search.{CallsListed, StatesGrow}
-use Rattle.need_chains.proofs.search.push_callees.Given as goal
-
--- the states of the calls so far are listed
-abbrev pub invariant-loop-step : goal.invariant-loop-step
-invariant-loop-step l = record {
-  grows : StatesGrow l.bodies l.target l.fn.states l.states;
-  listed : CallsListed l.bodies l.target l.states l.values l.steps l.step;
-}

@@ -1,6 +1,0 @@
-use Rattle.std.proofs.Common.{length}
-use Rattle.need_chains.proofs.standing.+stand_for.Given as goal
-
--- each call is for fewer elements
-abbrev pub decreases-stand_for : goal.decreases-stand_for
-decreases-stand_for l = length l.elems.now

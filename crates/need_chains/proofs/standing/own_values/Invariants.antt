@@ -1,7 +1,0 @@
-use Rattle.std.proofs.Common.{◌≡◌}
-use Rattle.need_chains.specs.inner.Standing.{own_values}
-use Rattle.need_chains.proofs.standing.own_values.Given as goal
-
--- the values of so many parameters
-abbrev pub invariant-loop-k : goal.invariant-loop-k
-invariant-loop-k l = l.found ≡ own_values l.k

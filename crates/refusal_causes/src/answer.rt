@@ -1,0 +1,34 @@
+//! The way to a point.
+ghost use Rattle.std.specs.Prelude.{◌≡◌, IfNone, IfSome};
+ghost use Rattle.refusal_causes.specs.Ways.{IsOnNone, IsWay};
+ghost use Rattle.refusal_causes.specs.inner.Reached.{found_in};
+
+use crate::reaching::{Aim, note_ways, reach_block};
+use crate::way::Way;
+use crate::ways::Ways;
+use twe_program::Body;
+
+/// The ways to the point on which the future is out, and is not.
+fn ways_to(body: &Body, point: u32, future: u32) -> Ways
+    ensures { result ≡ found_in body.now future point }
+{
+    let aim = Aim {
+        future,
+        point,
+        end: body.points.saturating_sub(1),
+    };
+    let mut found = Ways::nowhere();
+    let last = reach_block(&mut found, &body.block, aim, Ways::at_start());
+    note_ways(&mut found, aim.end, aim, last);
+    found
+}
+
+/// A way to the point after which the future is out or, if `out` is false, is not. `None`: on no control path to the point
+/// is it so. It goes once through the body, and once more through the body of each loop for that loop and for each around it.
+pub fn way_to(body: &Body, point: u32, future: u32, out: bool) -> Option<Way>
+    ensures some { IfSome result (IsWay body.now point future out) }
+    ensures none { IfNone result (IsOnNone body.now point future out) }
+{
+    let found = ways_to(body, point, future);
+    if out { found.out } else { found.not_out }
+}

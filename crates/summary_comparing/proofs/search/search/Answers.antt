@@ -1,0 +1,34 @@
+use Rattle.std.proofs.Common.{◌≡◌, ◌<◌, ◌≤◌, ◌+◌, ℕ, List, Option, None, Some, length, sym, subst, arith}
+use Rattle.std.specs.Prelude.{IfNone, slice_get}
+use Rattle.summary_comparing.specs.declared.states.State.{State}
+use Rattle.summary_comparing.specs.inner.Search.{IsDoneWith}
+use Rattle.summary_comparing.proofs.Linked.{done-more, grow-further, grow-length}
+use Rattle.summary_comparing.proofs.search.search.Goals as goal
+
+-- one state more
+pub loop-at-preserved : goal.loop-at-preserved
+loop-at-preserved c =
+    let bodies = c.args.bodies.now in
+    let target = c.args.target.now in
+    let first = c.args.states.now in
+    let old = c.loop-at.states in
+    let new = c.look_at.new.states in
+    let at = c.loop-at.at in
+    let grows = c.in_ok-found.ensures.grows in
+    let long = c.len.ensures in
+    let inside : at < length old = let past = c.if-at-len.false in omega (arith, past, long) in
+    let more = grow-length bodies target old new grows in
+    record {
+      grows = grow-further bodies target first old new c.loop-at.invariant.grows grows;
+      done = done-more bodies target old new at grows inside c.loop-at.invariant.done
+          (subst (λ (o : Option ℕ). IfNone o ((state : State) → slice_get old at ≡ Some state → IsDoneWith bodies target new state)) c.in_default.is c.in_ok-found.ensures.none);
+      inside = omega (arith, inside, more);
+    }
+
+-- all places were looked at
+pub of_uncountable-requires : goal.of_uncountable-requires
+of_uncountable-requires c =
+    let long : c.as_slice.result.now ≡ c.loop-at.states = c.as_slice.ensures in
+    let inside = c.loop-at.invariant.inside in
+    let end = c.loop-at-test.false in
+    subst (λ (ss : List State). 4294967295 ≤ length ss) (sym long) (omega (arith, inside, end))

@@ -1,4 +1,0 @@
-pub mod Accepted
-pub mod Finding
-pub mod Taking
-pub mod Whole

@@ -1,8 +1,0 @@
-use Rattle.summary_writing.proofs.Whole.{whole_text, kept_text}
-use Rattle.summary_writing.proofs.laws.parts_are_the_text.Goals as goal
-
-pub returns-clause-whole : goal.returns-clause-whole
-returns-clause-whole c = whole_text
-
-pub returns-clause-kept : goal.returns-clause-kept
-returns-clause-kept c = kept_text

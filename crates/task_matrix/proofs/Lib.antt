@@ -1,3 +1,0 @@
-pub mod Exactness
-pub mod Solutions
-pub mod Meetings

@@ -1,6 +1,0 @@
-use Rattle.text_causes.proofs.Ways as ways
-use Rattle.text_causes.proofs.end.one_answer.Goals as goal
-
--- the lexemes that end at the place are the same
-pub returns : goal.returns
-returns c text place places others one other = ways.one_answer text place places others one other
