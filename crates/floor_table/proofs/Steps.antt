@@ -1,5 +1,5 @@
 -- Each step on a word keeps the rule of the table: the floor that the table shows changes as the step of the floor says.
-use Rattle.std.proofs.Common.{◌≡◌, ◌≢◌, ◌⊎◌, ◌+◌, ◌<◌, ◌≤◌, ℕ, zero, suc, ℤ, List, [], ◌∷◌, length, Option, None, Some, refl, sym, ap, subst, ◌∙◌, inl, inr, ⊎_elim, arith, length-set}
+use Rattle.std.proofs.Common.{◌≡◌, ◌≢◌, ◌⊎◌, ◌+◌, ◌*◌, ◌<◌, ◌≤◌, ℕ, zero, suc, ℤ, List, [], ◌∷◌, length, Option, None, Some, refl, sym, ap, subst, ◌∙◌, inl, inr, ⊎_elim, arith, length-set}
 use Rattle.std.specs.Prelude.{◌==◌, ◌^◌, slice_index, slice_set}
 use Rattle.std.proofs.lemmas.Bool.{cases_eq}
 use mathlib.Core.Option as core
@@ -142,13 +142,13 @@ module _ (p : Program) (lim : Bounds) (s : Table) (kept : TableKeeps p lim s) (i
   cell_within c below = let size = kept.words in omega (arith, size, below)
 
   -- words behind the cells
-  clock_else : (i x : ℕ) → 8 + cell_count p ≤ i → number_at (get_elem? (slice_set s.words i x) clock_place) ≡ number_at (get_elem? s.words clock_place)
+  clock_else : (i x : ℕ) → 8 + 8 * cell_count p ≤ i → number_at (get_elem? (slice_set s.words i x) clock_place) ≡ number_at (get_elem? s.words clock_place)
   clock_else i x past = ap number_at (at_else s.words i 0 x (λ same. omega (arith, same, past)))
 
-  cells_stay : (i x : ℕ) → 8 + cell_count p ≤ i → cell_words_from (slice_set s.words i x) 8 (cell_count p) ≡ cell_words_from s.words 8 (cell_count p)
+  cells_stay : (i x : ℕ) → 8 + 8 * cell_count p ≤ i → cell_words_from (slice_set s.words i x) 8 (cell_count p) ≡ cell_words_from s.words 8 (cell_count p)
   cells_stay i x past = cells_else s.words 8 (cell_count p) i x (λ c below same. omega (arith, below, same, past))
 
-  small_stay : (i x : ℕ) → 8 + cell_count p ≤ i → (c : ℕ) → c < cell_count p → number_at (get_elem? (slice_set s.words i x) (cell_place c)) < 2 ^ 32
+  small_stay : (i x : ℕ) → 8 + 8 * cell_count p ≤ i → (c : ℕ) → c < cell_count p → number_at (get_elem? (slice_set s.words i x) (cell_place c)) < 2 ^ 32
   small_stay i x past c below =
       subst (λ (n : ℕ). n < 2 ^ 32) (sym (ap number_at (at_else s.words i (cell_place c) x (λ same. omega (arith, below, same, past))))) (kept.cells c below)
 
@@ -184,7 +184,7 @@ module _ (p : Program) (lim : Bounds) (s : Table) (kept : TableKeeps p lim s) (i
         let i = turn_place p t in
         let x = taken_word v.worker in
         let w = with_turn v t (Some turn) in
-        let past : 8 + cell_count p ≤ i = omega arith in
+        let past : 8 + 8 * cell_count p ≤ i = omega arith in
         let slots = kept.slots in
         floor_is _ (after_taking f id t turn)
         (ap entries_of_clock (clock_else i x past))
@@ -275,7 +275,7 @@ module _ (p : Program) (lim : Bounds) (s : Table) (kept : TableKeeps p lim s) (i
     give_tie =
         let i = turn_place p t in
         let w = given_view in
-        let past : 8 + cell_count p ≤ i = omega arith in
+        let past : 8 + 8 * cell_count p ≤ i = omega arith in
         let slots = kept.slots in
         floor_is _ (after_giving f id t turn)
         (ap entries_of_clock (clock_else i free_word past))
@@ -320,7 +320,7 @@ module _ (p : Program) (lim : Bounds) (s : Table) (kept : TableKeeps p lim s) (i
         let i = phase_place p t in
         let x = word_of_phase phase in
         let w = stored_view in
-        let past : 8 + cell_count p ≤ i = omega arith in
+        let past : 8 + 8 * cell_count p ≤ i = omega arith in
         floor_is _ (after_phase f id t turn phase)
         (ap entries_of_clock (clock_else i x past))
         (ap asked_of_clock (clock_else i x past))

@@ -1,5 +1,5 @@
 -- The words of the floor after one of them was set.
-use Rattle.std.proofs.Common.{◌≡◌, ◌≢◌, ◌+◌, ◌<◌, ℕ, zero, suc, List, ◌∷◌, length, refl, sym, ap, ◌∙◌, ⊎_elim, arith}
+use Rattle.std.proofs.Common.{◌≡◌, ◌≢◌, ◌+◌, ◌*◌, ◌<◌, ℕ, zero, suc, List, ◌∷◌, length, refl, sym, ap, ◌∙◌, ⊎_elim, arith}
 use Rattle.std.specs.Prelude.{slice_set}
 use Rattle.std.proofs.lemmas.Bool.{cases_eq}
 use mathlib.Core.Option as core
@@ -14,40 +14,40 @@ use Rattle.floor_table.proofs.Elements.{at_else, at_within}
 
 -- Cells.
 
-pub cells_else : (words : List ℕ) (place n i x : ℕ) → ((c : ℕ) → c < n → place + c ≢ i) → cell_words_from (slice_set words i x) place n ≡ cell_words_from words place n
+pub cells_else : (words : List ℕ) (place n i x : ℕ) → ((c : ℕ) → c < n → place + 8 * c ≢ i) → cell_words_from (slice_set words i x) place n ≡ cell_words_from words place n
 cells_else words place zero i x other = refl
 cells_else words place (suc n) i x other =
     let here : place ≢ i = λ same. other 0 (omega arith) (omega (arith, same)) in
     let first : value_of_word (number_at (get_elem? (slice_set words i x) place)) ≡ value_of_word (number_at (get_elem? words place)) =
     ap (λ (o : core.Option ℕ). value_of_word (number_at o)) (at_else words i place x here) in
-    let rest = cells_else words (place + 1) n i x (λ c below same. other (c + 1) (omega (arith, below)) (omega (arith, same))) in
+    let rest = cells_else words (place + 8) n i x (λ c below same. other (c + 1) (omega (arith, below)) (omega (arith, same))) in
     λ k. first k ∷ rest k
 
-pub cells_put : (words : List ℕ) (place n c i x : ℕ) → i ≡ place + c → c < n → i < length words
+pub cells_put : (words : List ℕ) (place n c i x : ℕ) → i ≡ place + 8 * c → c < n → i < length words
     → cell_words_from (slice_set words i x) place n ≡ slice_set (cell_words_from words place n) c (value_of_word x)
 cells_put words place zero c i x is below within = absurd (omega (arith, below))
 cells_put words place (suc n) zero i x is below within =
     let same : place ≡ i = omega (arith, is) in
     let first : value_of_word (number_at (get_elem? (slice_set words i x) place)) ≡ value_of_word x =
     ap (λ (j : ℕ). value_of_word (number_at (get_elem? (slice_set words i x) j))) same ∙ ap (λ (o : core.Option ℕ). value_of_word (number_at o)) (at_within words i x within) in
-    let rest = cells_else words (place + 1) n i x (λ k low here. omega (arith, same, here)) in
+    let rest = cells_else words (place + 8) n i x (λ k low here. omega (arith, same, here)) in
     λ k. first k ∷ rest k
 cells_put words place (suc n) (suc c) i x is below within =
     let here : place ≢ i = λ same. omega (arith, is, same) in
     let first : value_of_word (number_at (get_elem? (slice_set words i x) place)) ≡ value_of_word (number_at (get_elem? words place)) =
     ap (λ (o : core.Option ℕ). value_of_word (number_at o)) (at_else words i place x here) in
-    let rest = cells_put words (place + 1) n c i x (omega (arith, is)) (omega (arith, below)) within in
+    let rest = cells_put words (place + 8) n c i x (omega (arith, is)) (omega (arith, below)) within in
     λ k. first k ∷ rest k
 
 -- the value of a cell is that of its word
-pub cells_at : (words : List ℕ) (place n c i : ℕ) → i ≡ place + c → c < n → cell_at (cell_words_from words place n) c ≡ value_of_word (number_at (get_elem? words i))
+pub cells_at : (words : List ℕ) (place n c i : ℕ) → i ≡ place + 8 * c → c < n → cell_at (cell_words_from words place n) c ≡ value_of_word (number_at (get_elem? words i))
 cells_at words place zero c i is below = absurd (omega (arith, below))
 cells_at words place (suc n) zero i is below = let same : place ≡ i = omega (arith, is) in ap (λ (j : ℕ). value_of_word (number_at (get_elem? words j))) same
-cells_at words place (suc n) (suc c) i is below = cells_at words (place + 1) n c i (omega (arith, is)) (omega (arith, below))
+cells_at words place (suc n) (suc c) i is below = cells_at words (place + 8) n c i (omega (arith, is)) (omega (arith, below))
 
 pub cells_length : (words : List ℕ) (place n : ℕ) → length (cell_words_from words place n) ≡ n
 cells_length words place zero = refl
-cells_length words place (suc n) = ap suc (cells_length words (place + 1) n)
+cells_length words place (suc n) = ap suc (cells_length words (place + 8) n)
 
 -- Turn words and phase words.
 

@@ -8,27 +8,35 @@ use Rattle.floor_rule.specs.declared.view.Phase.{Phase}
 use Rattle.floor_rule.specs.declared.view.Phase.TheVariants.{Absent, Made, Running, Waits, Done, Faulted}
 use Rattle.floor_rule.specs.Floors.{TurnWord, Free, Taken, New}
 
--- Word 0 is the clock. The cells follow, and then for each task its turn word and its phase word. Before the first cell and
--- behind the last one are words that are not used. So no cell is less than eight words away from the clock or from a turn word:
--- it lies in no cache line of 64 bytes with them, wherever the table begins.
+-- how many words a cache line of 64 bytes has: words that lie so far apart share no line, wherever the table begins
+abbrev pub line : ℕ
+line = 8
+
+-- how many words lie from the turn word of a task to that of the next one: its turn word, its phase word, and seven more
+abbrev pub task_words : ℕ
+task_words = 9
+
+-- Word 0 is the clock. The words of the cells follow, and then for each task its turn word and its phase word. Behind the clock,
+-- behind the word of each cell and behind the two words of each task are seven words that are not used. So the clock, the words
+-- of two cells, those of two tasks, and those of a cell and a task are at least eight words apart, and share no cache line.
 abbrev pub clock_place : ℕ
 clock_place = 0
 
 -- the place of a cell's word
 abbrev pub cell_place : ℕ → ℕ
-cell_place c = 8 + c
+cell_place c = line + line * c
 
 -- the place of a task's turn word
 abbrev pub turn_place : Program → ℕ → ℕ
-turn_place p t = 16 + cell_count p + 2 * t
+turn_place p t = line + line * cell_count p + task_words * t
 
 -- the place of a task's phase word
 abbrev pub phase_place : Program → ℕ → ℕ
-phase_place p t = 16 + cell_count p + 2 * t + 1
+phase_place p t = line + line * cell_count p + task_words * t + 1
 
 -- how many words there are
 abbrev pub word_count : Program → Bounds → ℕ
-word_count p lim = 16 + cell_count p + 2 * lim.tasks
+word_count p lim = line + line * cell_count p + task_words * lim.tasks
 
 -- the clock counts entries by 1 and makes by 2 ^ 45
 abbrev pub entries_of_clock : ℕ → ℕ
@@ -86,10 +94,11 @@ abbrev pub phase_word_at : Option ℕ → Phase
 phase_word_at none = Absent
 phase_word_at (some n) = phase_of_word n
 
--- the values of n cells whose words lie from this place on
+-- the values of n cells whose words lie from this place on, each in a line of its own
 abbrev pub cell_words_from : List ℕ → ℕ → ℕ → List ℤ
 cell_words_from words place zero = []
-cell_words_from words place (suc n) = value_of_word (number_at (get_elem? words place)) ∷ cell_words_from words (place + 1) n
+cell_words_from words place (suc n) =
+    value_of_word (number_at (get_elem? words place)) ∷ cell_words_from words (place + line) n
 
 -- the number that stands for a phase
 abbrev pub word_of_phase : Phase → ℕ

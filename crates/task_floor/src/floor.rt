@@ -1,6 +1,7 @@
 //! The floor with its nodes, and its stands.
 ghost use Rattle.std.specs.Prelude.{◌≡◌, ◌<◌, ◌^◌, length};
 ghost use Rattle.twe_program.specs.Program.{cell_count};
+ghost use Rattle.twe_program.specs.WellFormed.{IsWellFormed};
 ghost use Rattle.floor_table.specs.Layout.{cell_place, phase_place, turn_place, word_count};
 ghost use Rattle.floor_table.specs.nodes.Layout.{content_place, decider_place, lock_place, tree_slot_count, tree_word_count};
 
@@ -9,6 +10,12 @@ use floor_table::Named;
 use floor_table::nodes::{Planted, TreeLaw, TreeSlot, TreeStart, TreeView};
 use std::alloc::Global;
 use std::marker::Model;
+
+/// How many words a cache line of 64 bytes has.
+pub(crate) const LINE: usize = 8;
+
+/// How many words lie from the turn word of a task to that of the next one.
+pub(crate) const TASK_WORDS: usize = 9;
 
 /// The floor of a run with the nodes of its tree, which all workers share. `N` names the program, the limits and the nodes.
 /// Clauses see the name of its table.
@@ -66,13 +73,22 @@ impl<N: Named + Planted> Floor<N> {
         }
     }
 
+    /// How many words there are before the first decider word.
+    pub(crate) fn word_count(cells: usize, tasks: u32) -> usize
+        requires accepted { IsWellFormed N.prog }
+        requires counts { (cells ≡ cell_count N.prog) × (tasks ≡ N.lim.tasks) }
+        ensures { result ≡ word_count N.prog N.lim }
+    {
+        LINE + LINE * cells + TASK_WORDS * tasks as usize
+    }
+
     /// Where the word of a cell lies.
     pub(crate) fn cell_place(&self, cell: u32) -> usize
         requires { cell < cell_count N.prog }
         ensures { result ≡ cell_place cell }
     {
         let _words = self.words;
-        8 + cell as usize
+        LINE + LINE * cell as usize
     }
 
     /// Where the turn word of a task lies.
@@ -81,7 +97,7 @@ impl<N: Named + Planted> Floor<N> {
         ensures { result ≡ turn_place N.prog task }
     {
         let _words = self.words;
-        16 + self.cells + 2 * task as usize
+        LINE + LINE * self.cells + TASK_WORDS * task as usize
     }
 
     /// Where the phase word of a task lies.
@@ -90,7 +106,7 @@ impl<N: Named + Planted> Floor<N> {
         ensures { result ≡ phase_place N.prog task }
     {
         let _words = self.words;
-        16 + self.cells + 2 * task as usize + 1
+        LINE + LINE * self.cells + TASK_WORDS * task as usize + 1
     }
 
     /// Where the lock word of a node lies.

@@ -1,7 +1,7 @@
 //! The words and the slots of a floor that starts from a state.
 ghost use Rattle.std.specs.Prelude.{◌≡◌, ◌<◌, ◌≤◌, ◌-◌, ◌^◌, ◌++◌, ℕ, List, None, length, map, replicate, drop, IfOk, OnOk};
 ghost use Rattle.floor_rule.specs.Rows.{slot_of};
-ghost use Rattle.task_floor.specs.steps.inner.Laying.{AreWordsOf, gap_words, head_words, held_slot, made_words, unmade_words};
+ghost use Rattle.task_floor.specs.steps.inner.Laying.{AreWordsOf, head_words, held_slot, in_lines, made_words, unmade_words};
 
 use crate::clock::clock_of;
 use crate::row_phase::phase_of;
@@ -11,50 +11,45 @@ use std::alloc::Global;
 use twe_base::{List, Memory};
 use twe_machine::{State, TaskRow};
 
-/// The words that show a state after this many entries, if so many tasks may be made.
+/// The words that show a state after this many entries, if so many tasks may be made. They lie in memory that has room for
+/// `room` words.
 pub(crate) fn words_of(
     alloc: Global,
     st: &State,
     tasks: u32,
     entries: usize,
+    room: usize,
 ) -> Result<List<u64>, Memory>
     requires clock { (st.now.asked < 2 ^ 19) × (entries < 2 ^ 45) }
     requires tasks { length st.now.tasks ≤ tasks }
     ensures { IfOk result (λ words. (cells : List ℕ) × AreWordsOf st.now.cells cells
         × (words ≡ head_words st.now.asked entries
-        ++ (cells ++ (gap_words ++ (made_words st.now.tasks ++ unmade_words (tasks - length st.now.tasks)))))) }
+        ++ (in_lines cells ++ (made_words st.now.tasks ++ unmade_words (tasks - length st.now.tasks))))) }
 {
-    let mut words = head_words(alloc, st.asked, entries)?;
+    let mut words = List::with_capacity(alloc, room)?;
+    add_head(&mut words, st.asked, entries)?;
     add_cells(&mut words, st.cells.as_slice())?;
-    add_gap(&mut words)?;
     add_made(&mut words, st.tasks.as_slice())?;
     add_unmade(&mut words, tasks - st.tasks.len() as u32)?;
     Ok(words)
 }
 
-/// The clock, and the words up to the first cell.
-fn head_words(alloc: Global, asked: u32, entries: usize) -> Result<List<u64>, Memory>
+/// Adds the clock, and the words up to the first cell.
+fn add_head(words: &mut List<u64>, asked: u32, entries: usize) -> Result<(), Memory>
     requires { (asked < 2 ^ 19) × (entries < 2 ^ 45) }
-    ensures { IfOk result (λ words. words ≡ head_words asked entries) }
+    ensures { OnOk result (words.new ≡ words.old ++ head_words asked entries) }
 {
-    List::from_slice(alloc, &[clock_of(asked, entries), 0, 0, 0, 0, 0, 0, 0])
+    words.push_all(&[clock_of(asked, entries), 0, 0, 0, 0, 0, 0, 0])
 }
 
-/// Adds the words of cells.
+/// Adds the words of cells, each in a line of its own.
 fn add_cells(words: &mut List<u64>, cells: &[i32]) -> Result<(), Memory>
-    ensures { OnOk result ((more : List ℕ) × AreWordsOf cells.now more × (words.new ≡ words.old ++ more)) }
+    ensures { OnOk result ((more : List ℕ) × AreWordsOf cells.now more × (words.new ≡ words.old ++ in_lines more)) }
 {
     for value in cells {
-        words.push(word_of_value(*value))?;
+        words.push_all(&[word_of_value(*value), 0, 0, 0, 0, 0, 0, 0])?;
     }
     Ok(())
-}
-
-/// Adds the words between the last cell and the first task.
-fn add_gap(words: &mut List<u64>) -> Result<(), Memory>
-    ensures { OnOk result (words.new ≡ words.old ++ gap_words) }
-{
-    words.push_all(&[0, 0, 0, 0, 0, 0, 0, 0])
 }
 
 /// Adds the words of tasks that were made: their turns are free.
@@ -62,8 +57,7 @@ fn add_made(words: &mut List<u64>, tasks: &[TaskRow]) -> Result<(), Memory>
     ensures { OnOk result (words.new ≡ words.old ++ made_words tasks.now) }
 {
     for row in tasks {
-        words.push(0)?;
-        words.push(word_of(phase_of(row)))?;
+        words.push_all(&[0, word_of(phase_of(row)), 0, 0, 0, 0, 0, 0, 0])?;
     }
     Ok(())
 }
@@ -73,8 +67,7 @@ fn add_unmade(words: &mut List<u64>, count: u32) -> Result<(), Memory>
     ensures { OnOk result (words.new ≡ words.old ++ unmade_words count) }
 {
     for i in 0..count {
-        words.push(1)?;
-        words.push(0)?;
+        words.push_all(&[1, 0, 0, 0, 0, 0, 0, 0, 0])?;
     }
     Ok(())
 }

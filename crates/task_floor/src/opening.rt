@@ -35,7 +35,7 @@ impl<N: Named + Planted> Floor<N> {
         ensures { IfOk result (λ opened. (opened.1.table_id ≡ opened.0)
             × (opened.1.me ≡ (first_tree_view start.now.part start.now.records, []))) }
     {
-        let count = 16 + cells + 2 * tasks as usize;
+        let count = Self::word_count(cells, tasks);
         let _all = slots.len();
         match Table::new(alloc, words, slots.into_vec(), start) {
             Ok((table, stand)) => Ok((Floor::of_table(table, cells, count, tasks as usize), stand)),

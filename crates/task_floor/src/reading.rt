@@ -4,9 +4,10 @@ ghost use lib.ListN.{get_elem?};
 ghost use Rattle.twe_machine.specs.declared.state.TaskRow.{TaskRow};
 ghost use Rattle.seg_journal.specs.declared.journal.Entry.{Entry};
 ghost use Rattle.floor_rule.specs.Shown.{first_fault_in, row_by, status_by, value_by};
-ghost use Rattle.floor_table.specs.Layout.{cell_words_from, number_at, phase_of_word};
+ghost use Rattle.floor_table.specs.Layout.{cell_place, cell_words_from, line, number_at, phase_of_word, task_words};
 ghost use Rattle.task_floor.specs.steps.inner.Reading.{held_in, joined_unless, row_in, rows_from};
 
+use crate::floor::{LINE, TASK_WORDS};
 use crate::unjoined::unjoined;
 use crate::words::value_of;
 use floor_rule::TaskSlot;
@@ -17,13 +18,13 @@ use twe_machine::{FirstFault, TaskRow, TaskStatus};
 
 /// The values of this many cells.
 pub(crate) fn cells_of(alloc: Global, words: &[u64], count: usize) -> Result<Ints, Memory>
-    requires within { 8 + count ≤ length words.now }
-    requires small { (c : ℕ) → c < count → number_at (get_elem? words.now (8 + c)) < 2 ^ 32 }
-    ensures { IfOk result (λ cells. cells ≡ cell_words_from words.now 8 count) }
+    requires within { line + line * count ≤ length words.now }
+    requires small { (c : ℕ) → c < count → number_at (get_elem? words.now (cell_place c)) < 2 ^ 32 }
+    ensures { IfOk result (λ cells. cells ≡ cell_words_from words.now line count) }
 {
     let mut cells = Ints::new(alloc);
     for c in 0..count {
-        cells.push(value_of(words[8 + c]))?;
+        cells.push(value_of(words[LINE + LINE * c]))?;
     }
     Ok(cells)
 }
@@ -35,7 +36,7 @@ pub(crate) fn rows_of(
     first: usize,
     slots: List<Option<TaskSlot>>,
 ) -> Result<List<TaskRow>, Memory>
-    requires { first + 2 * length slots ≤ length words.now }
+    requires { first + task_words * length slots ≤ length words.now }
     ensures { IfOk result (λ rows. rows ≡ rows_from words.now first (held_in slots) 0 slots) }
 {
     let marks = unjoined(alloc, slots.as_slice())?;
@@ -43,7 +44,7 @@ pub(crate) fn rows_of(
     let mut rows = List::new(alloc);
     for t in 0..slots.len() {
         let slot = slots.item_mut(t).take();
-        let word = words[first + 2 * t + 1];
+        let word = words[first + TASK_WORDS * t + 1];
         add_row(alloc, &mut rows, slot, word, marks.as_slice()[t])?;
     }
     Ok(rows)

@@ -66,10 +66,12 @@ impl<N: Named + Planted> Floor<N> {
         let nodes = shape.nodes();
         let records = records_of(alloc, shape, &state)?;
         let contents = contents_of(alloc, nodes, records.as_slice())?;
-        let mut words = words_of(alloc, &state, count, journal.len())?;
+        let cell_count = state.cells.len();
+        let room = Self::word_count(cell_count, count) + count as usize + nodes as usize;
+        let mut words = words_of(alloc, &state, count, journal.len(), room)?;
         add_zeros(&mut words, count as usize + nodes as usize)?;
         let State {
-            cells,
+            cells: _cells,
             tasks,
             links: _links,
             prints,
@@ -80,14 +82,7 @@ impl<N: Named + Planted> Floor<N> {
         let slots = tree_slots(alloc, tasks, contents)?;
         let part = log_of(alloc, journal.as_slice(), prints)?;
         let start = TreeStart { part, records };
-        let (floor, stand) = Self::open(
-            alloc,
-            cells.len(),
-            count,
-            words.as_slice(),
-            slots,
-            &start,
-        )?;
+        let (floor, stand) = Self::open(alloc, cell_count, count, words.as_slice(), slots, &start)?;
         let TreeStart {
             part,
             records: _records,

@@ -9,11 +9,12 @@ use Rattle.twe_machine.specs.declared.state.State.{State}
 use Rattle.twe_machine.specs.declared.state.TaskRow.{TaskRow}
 use Rattle.seg_journal.specs.declared.numbered.NumberedEntry.{NumberedEntry}
 use Rattle.floor_rule.specs.declared.view.TaskSlot.{TaskSlot}
+use Rattle.floor_rule.specs.Rows.{phase_of}
 use Rattle.floor_rule.specs.Steps.{phase_at_start}
 use Rattle.floor_rule.specs.Touches.{cell_at}
 use Rattle.floor_table.specs.Holds.{IsLaidOut, IsWordOf, slot_of_row, turn_word_of}
-use Rattle.floor_table.specs.Layout.{cell_place, phase_place, turn_place, value_of_word, word_of_phase}
-use Rattle.task_floor.specs.steps.inner.Laying.{AreWordsOf, gap_words, head_words, held_slot, made_words, unmade_words}
+use Rattle.floor_table.specs.Layout.{cell_place, free_word, new_word, phase_place, turn_place, value_of_word, word_of_phase}
+use Rattle.task_floor.specs.steps.inner.Laying.{AreWordsOf, head_words, held_slot, in_lines, made_words, unmade_words, unused_words}
 
 -- beyond the first of two lists
 pub get_past : {A : Type 0} (a b : List A) (i j : ℕ) → i ≡ length a + j → get_elem? (a ++ b) i ≡ get_elem? b j
@@ -30,69 +31,79 @@ one_word_more [] (w ∷ words) value word are small is = absurd are
 one_word_more (v ∷ values) [] value word are small is = absurd are
 one_word_more (v ∷ values) (w ∷ words) value word are small is = (are.0, are.1, one_word_more values words value word are.2 small is)
 
+-- one word more, in a line of its own
+pub one_line_more : (words : List ℕ) (word : ℕ) → in_lines (words ++ word ∷ []) ≡ in_lines words ++ (word ∷ unused_words)
+one_line_more [] word = refl
+one_line_more (w ∷ words) word = ap (λ (l : List ℕ). w ∷ (unused_words ++ l)) (one_line_more words word)
+
 as_many : (values : List ℤ) (words : List ℕ) → AreWordsOf values words → length words ≡ length values
 as_many [] [] are = refl
 as_many [] (w ∷ words) are = absurd are
 as_many (v ∷ values) [] are = absurd are
 as_many (v ∷ values) (w ∷ words) are = ap suc (as_many values words are.2)
 
-word_there : (values : List ℤ) (words behind : List ℕ) (c : ℕ) → AreWordsOf values words → c < length values → IsWordOf (words ++ behind) c (cell_at values c)
+lines_count : (words : List ℕ) → length (in_lines words) ≡ 8 * length words
+lines_count [] = omega arith
+lines_count (w ∷ words) = let rest = lines_count words in omega (arith, rest)
+
+word_there : (values : List ℤ) (words behind : List ℕ) (c : ℕ) → AreWordsOf values words → c < length values → IsWordOf (in_lines words ++ behind) (8 * c) (cell_at values c)
 word_there [] words behind c are below = absurd (omega (arith, below))
 word_there (v ∷ values) [] behind c are below = absurd are
 word_there (v ∷ values) (w ∷ words) behind zero are below = record { word = w; there = refl; small = are.0; means = are.1 }
 word_there (v ∷ values) (w ∷ words) behind (suc c) are below =
     let later = word_there values words behind c are.2 (omega (arith, below)) in
-    record { word = later.word; there = later.there; small = later.small; means = later.means }
+    record {
+      word = later.word;
+      there = get_past (w ∷ unused_words) (in_lines words ++ behind) (8 * suc c) (8 * c) (omega arith) ∙ later.there;
+      small = later.small;
+      means = later.means;
+    }
 
 -- The words of tasks.
 
-made_count : (rows : List TaskRow) → length (made_words rows) ≡ 2 * length rows
+-- those of a task that was made, up to the next task
+abbrev made_one : TaskRow → List ℕ
+made_one row = free_word ∷ word_of_phase (phase_of row) ∷ unused_words
+
+-- those of a task that is not made
+abbrev unmade_one : List ℕ
+unmade_one = new_word ∷ 0 ∷ unused_words
+
+made_count : (rows : List TaskRow) → length (made_words rows) ≡ 9 * length rows
 made_count [] = omega arith
 made_count (row ∷ rows) = let rest = made_count rows in omega (arith, rest)
 
-unmade_count : (n : ℕ) → length (unmade_words n) ≡ 2 * n
+unmade_count : (n : ℕ) → length (unmade_words n) ≡ 9 * n
 unmade_count zero = omega arith
 unmade_count (suc n) = let rest = unmade_count n in omega (arith, rest)
 
-turn_unmade : (n t i : ℕ) → i ≡ 2 * t → t < n → get_elem? (unmade_words n) i ≡ core.some (turn_word_of None)
-turn_unmade zero t i is below = absurd (omega (arith, below))
-turn_unmade (suc n) t zero is below = refl
-turn_unmade (suc n) t (suc zero) is below = absurd (omega (arith, is))
-turn_unmade (suc n) zero (suc (suc i)) is below = absurd (omega (arith, is))
-turn_unmade (suc n) (suc t) (suc (suc i)) is below = turn_unmade n t i (omega (arith, is)) (omega (arith, below))
+turn_unmade : (n t : ℕ) → t < n → get_elem? (unmade_words n) (9 * t) ≡ core.some (turn_word_of None)
+turn_unmade zero t below = absurd (omega (arith, below))
+turn_unmade (suc n) zero below = refl
+turn_unmade (suc n) (suc t) below = get_past unmade_one (unmade_words n) (9 * suc t) (9 * t) (omega arith) ∙ turn_unmade n t (omega (arith, below))
 
-turn_at : (rows : List TaskRow) (n t i : ℕ) → i ≡ 2 * t → t < length rows + n → get_elem? (made_words rows ++ unmade_words n) i ≡ core.some (turn_word_of (slice_get rows t))
-turn_at [] n t i is below = turn_unmade n t i is (omega (arith, below))
-turn_at (row ∷ rows) n zero zero is below = refl
-turn_at (row ∷ rows) n (suc t) zero is below = absurd (omega (arith, is))
-turn_at (row ∷ rows) n t (suc zero) is below = absurd (omega (arith, is))
-turn_at (row ∷ rows) n zero (suc (suc i)) is below = absurd (omega (arith, is))
-turn_at (row ∷ rows) n (suc t) (suc (suc i)) is below = turn_at rows n t i (omega (arith, is)) (omega (arith, below))
+turn_at : (rows : List TaskRow) (n t : ℕ) → t < length rows + n → get_elem? (made_words rows ++ unmade_words n) (9 * t) ≡ core.some (turn_word_of (slice_get rows t))
+turn_at [] n t below = turn_unmade n t (omega (arith, below))
+turn_at (row ∷ rows) n zero below = refl
+turn_at (row ∷ rows) n (suc t) below = get_past (made_one row) (made_words rows ++ unmade_words n) (9 * suc t) (9 * t) (omega arith) ∙ turn_at rows n t (omega (arith, below))
 
-phase_unmade : (n t i : ℕ) → i ≡ 2 * t + 1 → t < n → get_elem? (unmade_words n) i ≡ core.some (word_of_phase (phase_at_start None))
-phase_unmade zero t i is below = absurd (omega (arith, below))
-phase_unmade (suc n) t zero is below = absurd (omega (arith, is))
-phase_unmade (suc n) t (suc zero) is below = refl
-phase_unmade (suc n) zero (suc (suc i)) is below = absurd (omega (arith, is))
-phase_unmade (suc n) (suc t) (suc (suc i)) is below = phase_unmade n t i (omega (arith, is)) (omega (arith, below))
+phase_unmade : (n t : ℕ) → t < n → get_elem? (unmade_words n) (9 * t + 1) ≡ core.some (word_of_phase (phase_at_start None))
+phase_unmade zero t below = absurd (omega (arith, below))
+phase_unmade (suc n) zero below = refl
+phase_unmade (suc n) (suc t) below = get_past unmade_one (unmade_words n) (9 * suc t + 1) (9 * t + 1) (omega arith) ∙ phase_unmade n t (omega (arith, below))
 
-phase_at : (rows : List TaskRow) (n t i : ℕ) → i ≡ 2 * t + 1 → t < length rows + n
-    → get_elem? (made_words rows ++ unmade_words n) i ≡ core.some (word_of_phase (phase_at_start (slice_get rows t)))
-phase_at [] n t i is below = phase_unmade n t i is (omega (arith, below))
-phase_at (row ∷ rows) n t zero is below = absurd (omega (arith, is))
-phase_at (row ∷ rows) n zero (suc zero) is below = refl
-phase_at (row ∷ rows) n (suc t) (suc zero) is below = absurd (omega (arith, is))
-phase_at (row ∷ rows) n zero (suc (suc i)) is below = absurd (omega (arith, is))
-phase_at (row ∷ rows) n (suc t) (suc (suc i)) is below = phase_at rows n t i (omega (arith, is)) (omega (arith, below))
+phase_at : (rows : List TaskRow) (n t : ℕ) → t < length rows + n → get_elem? (made_words rows ++ unmade_words n) (9 * t + 1) ≡ core.some (word_of_phase (phase_at_start (slice_get rows t)))
+phase_at [] n t below = phase_unmade n t (omega (arith, below))
+phase_at (row ∷ rows) n zero below = refl
+phase_at (row ∷ rows) n (suc t) below =
+    get_past (made_one row) (made_words rows ++ unmade_words n) (9 * suc t + 1) (9 * t + 1) (omega arith) ∙ phase_at rows n t (omega (arith, below))
 
 -- one more task that is not made
-pub unmade_more : (old mid new target : List ℕ) (count i : ℕ) → i < count → mid ≡ old ++ 1 ∷ [] → new ≡ mid ++ 0 ∷ [] → old ++ unmade_words (count - i) ≡ target
-    → new ++ unmade_words (count - (i + 1)) ≡ target
-unmade_more old mid new target count i below mid_is new_is is =
+pub unmade_more : (old new target : List ℕ) (count i : ℕ) → i < count → new ≡ old ++ unmade_one → old ++ unmade_words (count - i) ≡ target → new ++ unmade_words (count - (i + 1)) ≡ target
+unmade_more old new target count i below new_is is =
     let behind : List ℕ = unmade_words (count - (i + 1)) in
     let next : count - i ≡ suc (count - (i + 1)) = omega (arith, below) in
-    ap (λ (l : List ℕ). l ++ behind) (new_is ∙ ap (λ (l : List ℕ). l ++ 0 ∷ []) mid_is)
-    ∙ (append_assoc (old ++ 1 ∷ []) (0 ∷ []) behind ∙ (append_assoc old (1 ∷ []) (0 ∷ behind) ∙ (ap (λ (n : ℕ). old ++ unmade_words n) (sym next) ∙ is)))
+    ap (λ (l : List ℕ). l ++ behind) new_is ∙ (append_assoc old unmade_one behind ∙ (ap (λ (n : ℕ). old ++ unmade_words n) (sym next) ∙ is))
 
 -- Slots.
 
@@ -125,35 +136,35 @@ module _ (p : Program) (lim : Bounds) (log : List NumberedEntry) (st : State) (e
   tasks = made_words st.tasks ++ unmade_words (lim.tasks - length st.tasks)
 
   abbrev whole : List ℕ
-  whole = head_words st.asked entries ++ (cells ++ (gap_words ++ tasks))
+  whole = head_words st.asked entries ++ (in_lines cells ++ tasks)
 
   abbrev held : List (Option TaskSlot)
   held = map held_slot st.tasks ++ drop (length st.tasks) (replicate lim.tasks None)
 
-  cells_count : length cells ≡ cell_count p
-  cells_count = as_many st.cells cells are ∙ size
+  cells_count : length (in_lines cells) ≡ 8 * cell_count p
+  cells_count = lines_count cells ∙ ap (λ (n : ℕ). 8 * n) (as_many st.cells cells are ∙ size)
 
-  whole_count : length whole ≡ 16 + cell_count p + 2 * lim.tasks
+  whole_count : length whole ≡ 8 + 8 * cell_count p + 9 * lim.tasks
   whole_count =
       let made = made_count st.tasks in
       let unmade = unmade_count (lim.tasks - length st.tasks) in
       let both = length-append (made_words st.tasks) (unmade_words (lim.tasks - length st.tasks)) in
-      let all = length-append cells (gap_words ++ tasks) in
+      let all = length-append (in_lines cells) tasks in
       let own = cells_count in
       omega (arith, made, unmade, both, all, own, few)
 
-  task_word : (i j : ℕ) → i ≡ 16 + cell_count p + j → get_elem? whole i ≡ get_elem? tasks j
+  task_word : (i j : ℕ) → i ≡ 8 + 8 * cell_count p + j → get_elem? whole i ≡ get_elem? tasks j
   task_word i j is =
       let own = cells_count in
-      get_past (head_words st.asked entries) (cells ++ (gap_words ++ tasks)) i (cell_count p + (8 + j)) (omega (arith, is))
-      ∙ (get_past cells (gap_words ++ tasks) (cell_count p + (8 + j)) (8 + j) (omega (arith, own)) ∙ get_past gap_words tasks (8 + j) j (omega arith))
+      get_past (head_words st.asked entries) (in_lines cells ++ tasks) i (8 * cell_count p + j) (omega (arith, is))
+      ∙ get_past (in_lines cells) tasks (8 * cell_count p + j) j (omega (arith, own))
 
   cell_word : (c : ℕ) → c < cell_count p → IsWordOf whole (cell_place c) (cell_at st.cells c)
   cell_word c below =
-      let word = word_there st.cells cells (gap_words ++ tasks) c are (omega (arith, size, below)) in
+      let word = word_there st.cells cells tasks c are (omega (arith, size, below)) in
       record {
         word = word.word;
-        there = get_past (head_words st.asked entries) (cells ++ (gap_words ++ tasks)) (cell_place c) c refl ∙ word.there;
+        there = get_past (head_words st.asked entries) (in_lines cells ++ tasks) (cell_place c) (8 * c) refl ∙ word.there;
         small = word.small;
         means = word.means;
       }
@@ -166,8 +177,8 @@ module _ (p : Program) (lim : Bounds) (log : List NumberedEntry) (st : State) (e
         slot_count = slot_count st.tasks (replicate lim.tasks None) (omega (arith, few, empties)) ∙ empties;
         clock = ap (λ (n : ℕ). core.some (st.asked * 2 ^ 45 + n)) count;
         cells = cell_word;
-        turns = λ t below. task_word (turn_place p t) (2 * t) refl ∙ turn_at st.tasks (lim.tasks - length st.tasks) t (2 * t) refl (omega (arith, below, few));
-        phases = λ t below. task_word (phase_place p t) (2 * t + 1) (omega arith) ∙ phase_at st.tasks (lim.tasks - length st.tasks) t (2 * t + 1) refl (omega (arith, below, few));
+        turns = λ t below. task_word (turn_place p t) (9 * t) refl ∙ turn_at st.tasks (lim.tasks - length st.tasks) t (omega (arith, below, few));
+        phases = λ t below. task_word (phase_place p t) (9 * t + 1) (omega arith) ∙ phase_at st.tasks (lim.tasks - length st.tasks) t (omega (arith, below, few));
         slots_are = λ t below.
             slot_at st.tasks (replicate lim.tasks None) t (omega (arith, few, empties)) (λ k low. empty_at lim.tasks k (omega (arith, low, empties))) (omega (arith, below, empties));
       }

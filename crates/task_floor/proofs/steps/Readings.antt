@@ -33,20 +33,20 @@ use Rattle.task_floor.proofs.steps.Taken.{drop_one}
 
 -- Cells.
 
-pub cells_more : (words : List ℕ) (place n : ℕ) → cell_words_from words place (n + 1) ≡ cell_words_from words place n ++ value_of_word (number_at (get_elem? words (place + n))) ∷ []
+pub cells_more : (words : List ℕ) (place n : ℕ) → cell_words_from words place (n + 1) ≡ cell_words_from words place n ++ value_of_word (number_at (get_elem? words (place + 8 * n))) ∷ []
 cells_more words place n = ap (cell_words_from words place) next ∙ by place n
   where
     next : n + 1 ≡ suc n
     next = omega arith
 
-    by : (from count : ℕ) → cell_words_from words from (suc count) ≡ cell_words_from words from count ++ value_of_word (number_at (get_elem? words (from + count))) ∷ []
+    by : (from count : ℕ) → cell_words_from words from (suc count) ≡ cell_words_from words from count ++ value_of_word (number_at (get_elem? words (from + 8 * count))) ∷ []
     by from zero = ap (λ (i : ℕ). value_of_word (number_at (get_elem? words i)) ∷ []) (omega arith)
     by from (suc count) =
-        let place_is : (from + 1) + count ≡ from + suc count = omega arith in
+        let place_is : (from + 8) + 8 * count ≡ from + 8 * suc count = omega arith in
         ap (λ (l : List ℤ). value_of_word (number_at (get_elem? words from)) ∷ l)
-        (by (from + 1) count ∙ ap (λ (i : ℕ). cell_words_from words (from + 1) count ++ value_of_word (number_at (get_elem? words i)) ∷ []) place_is)
+        (by (from + 8) count ∙ ap (λ (i : ℕ). cell_words_from words (from + 8) count ++ value_of_word (number_at (get_elem? words i)) ∷ []) place_is)
 
-pub cells_step : (words : List ℕ) (n : ℕ) (cells new : List ℤ) (value : ℤ) → cells ≡ cell_words_from words 8 n → new ≡ cells ++ value ∷ [] → value ≡ value_of_word (number_at (get_elem? words (8 + n)))
+pub cells_step : (words : List ℕ) (n : ℕ) (cells new : List ℤ) (value : ℤ) → cells ≡ cell_words_from words 8 n → new ≡ cells ++ value ∷ [] → value ≡ value_of_word (number_at (get_elem? words (8 + 8 * n)))
     → new ≡ cell_words_from words 8 (n + 1)
 cells_step words n cells new value before is value_is =
     is ∙ (ap (λ (l : List ℤ). l ++ value ∷ []) before ∙ (ap (λ (x : ℤ). cell_words_from words 8 n ++ x ∷ []) value_is ∙ sym (cells_more words 8 n)))
@@ -96,7 +96,7 @@ held_is (row ∷ rows) (Some slot ∷ slots) are =
 
 -- the words and `all` say the rows of these tasks, which are numbered from k on
 pub record SayRows (words : List ℕ) (first : ℕ) (all : List TaskSlot) (k : ℕ) (rows : List TaskRow) : Type 0 where
-  pub are : (t n : ℕ) (row : TaskRow) → n ≡ k + t → slice_get rows t ≡ Some row → row ≡ row_by (slot_of row) (phase_word_at (get_elem? words (first + 2 * n + 1))) (is_joined n row.parent all)
+  pub are : (t n : ℕ) (row : TaskRow) → n ≡ k + t → slice_get rows t ≡ Some row → row ≡ row_by (slot_of row) (phase_word_at (get_elem? words (first + 9 * n + 1))) (is_joined n row.parent all)
 
 -- who is joined, in two forms
 joined_same : (c : ℕ) (parent : Option ℕ) (all : List TaskSlot) → joined_unless parent (is_unjoined c all) ≡ is_joined c parent all
@@ -116,7 +116,7 @@ rows_are words first all k [] (None ∷ slots) are say =
 rows_are words first all k [] (Some slot ∷ slots) are say = absurd (none_some (sym (some-injective (Some slot) None (are.unmade 0 (omega arith) (omega arith)))))
 rows_are words first all k (row ∷ rows) (None ∷ slots) are say = absurd (none_some (some-injective None (Some (slot_of row)) (are.made 0 row refl)))
 rows_are words first all k (row ∷ rows) (Some slot ∷ slots) are say =
-    let phase : Phase = phase_word_at (get_elem? words (first + 2 * k + 1)) in
+    let phase : Phase = phase_word_at (get_elem? words (first + 9 * k + 1)) in
     let same : slot ≡ slot_of row = some_one (some-injective (Some slot) (Some (slot_of row)) (are.made 0 row refl)) in
     let here : row_by slot phase (joined_unless slot.parent (is_unjoined k all)) ≡ row =
     ap (row_by slot phase) (joined_same k slot.parent all) ∙ (ap (λ (s : TaskSlot). row_by s phase (is_joined k s.parent all)) same ∙ sym (say.are 0 k row (omega arith) refl)) in
@@ -126,7 +126,7 @@ rows_are words first all k (row ∷ rows) (Some slot ∷ slots) are say =
 
 -- the row of one task more
 pub rows_step : (words : List ℕ) (first : ℕ) (all : List TaskSlot) (t : ℕ) (slots after : List (Option TaskSlot)) (slot : Option TaskSlot) (phase : Phase) (mark : Bool) (rows new target : List TaskRow)
-    → slice_get slots t ≡ Some slot → drop (t + 1) after ≡ drop (t + 1) slots → phase ≡ phase_word_at (get_elem? words (first + 2 * t + 1)) → mark ≡ is_unjoined t all
+    → slice_get slots t ≡ Some slot → drop (t + 1) after ≡ drop (t + 1) slots → phase ≡ phase_word_at (get_elem? words (first + 9 * t + 1)) → mark ≡ is_unjoined t all
     → new ≡ rows ++ row_in slot phase mark → rows ++ rows_from words first all t (drop t slots) ≡ target → new ++ rows_from words first all (t + 1) (drop (t + 1) after) ≡ target
 rows_step words first all t slots after slot phase mark rows new target at same phase_is mark_is is before =
     let behind : List TaskRow = rows_from words first all (t + 1) (drop (t + 1) slots) in
@@ -134,7 +134,7 @@ rows_step words first all t slots after slot phase mark rows new target at same 
     ∙ (ap (λ (l : List TaskRow). l ++ behind) is
     ∙ (append_assoc rows (row_in slot phase mark) behind
     ∙ (ap (λ (ph : Phase). rows ++ (row_in slot ph mark ++ behind)) phase_is
-    ∙ (ap (λ (b : Bool). rows ++ (row_in slot (phase_word_at (get_elem? words (first + 2 * t + 1))) b ++ behind)) mark_is
+    ∙ (ap (λ (b : Bool). rows ++ (row_in slot (phase_word_at (get_elem? words (first + 9 * t + 1))) b ++ behind)) mark_is
     ∙ (ap (λ (l : List (Option TaskSlot)). rows ++ rows_from words first all t l) (sym (drop_one slots t slot at)) ∙ before)))))
 
 -- Links.
@@ -222,7 +222,7 @@ module _ (p : Program) (lim : Bounds) (well : IsWellFormed p) (st : State) (reac
   pub held_all : held_in slots ≡ map slot_of st.tasks
   held_all = held_is st.tasks slots are_slots
 
-  say_rows : SayRows words (16 + cell_count p) (map slot_of st.tasks) 0 st.tasks
+  say_rows : SayRows words (8 + 8 * cell_count p) (map slot_of st.tasks) 0 st.tasks
   say_rows = record {
     are = λ t n row is there.
         let here : IsRow st n row = subst (λ (k : ℕ). IsRow st k row) (omega (arith, is)) there in
@@ -230,12 +230,12 @@ module _ (p : Program) (lim : Bounds) (well : IsWellFormed p) (st : State) (reac
         ∙ ap (λ (phase : Phase). row_by (slot_of row) phase (is_joined n row.parent (map slot_of st.tasks))) (sym (rest.phases n row here));
   }
 
-  pub tasks_read : rows_from words (16 + cell_count p) (held_in slots) 0 slots ≡ st.tasks
+  pub tasks_read : rows_from words (8 + 8 * cell_count p) (held_in slots) 0 slots ≡ st.tasks
   tasks_read =
-      ap (λ (all : List TaskSlot). rows_from words (16 + cell_count p) all 0 slots) held_all
-      ∙ rows_are words (16 + cell_count p) (map slot_of st.tasks) 0 st.tasks slots are_slots say_rows
+      ap (λ (all : List TaskSlot). rows_from words (8 + 8 * cell_count p) all 0 slots) held_all
+      ∙ rows_are words (8 + 8 * cell_count p) (map slot_of st.tasks) 0 st.tasks slots are_slots say_rows
 
-  pub tasks_are : (read : List ℕ) (first : ℕ) (tasks : List TaskRow) → read ≡ words → first ≡ 16 + cell_count p → tasks ≡ rows_from read first (held_in slots) 0 slots → tasks ≡ st.tasks
+  pub tasks_are : (read : List ℕ) (first : ℕ) (tasks : List TaskRow) → read ≡ words → first ≡ 8 + 8 * cell_count p → tasks ≡ rows_from read first (held_in slots) 0 slots → tasks ≡ st.tasks
   tasks_are read first tasks same first_is is =
       is
       ∙ (ap (λ (l : List ℕ). rows_from l first (held_in slots) 0 slots) same

@@ -15,7 +15,7 @@ use Rattle.floor_rule.specs.declared.view.TaskSlot.{TaskSlot}
 use Rattle.floor_table.proofs.Clock.{asked_few, entries_few}
 use Rattle.task_floor.specs.steps.Opening.{ShowsRun}
 use Rattle.task_floor.specs.steps.Waking.{log_of}
-use Rattle.task_floor.specs.steps.inner.Laying.{AreWordsOf, gap_words, head_words, held_slot, made_words, unmade_words}
+use Rattle.task_floor.specs.steps.inner.Laying.{AreWordsOf, head_words, held_slot, in_lines, made_words, unmade_words}
 use Rattle.task_floor.proofs.steps.Laid.{laid}
 use Rattle.task_floor.proofs.steps.Logs.{log_journal, log_length, log_order, log_prints}
 
@@ -49,7 +49,7 @@ module _ (p : Program) (lim : Bounds) (well : IsWellFormed p) (within : IsWithin
       (omega (arith, asked), omega (arith, entries, count))
 
   pub shows_run : (part : List NumberedEntry) (words cells : List ℕ) (slots : List (Option TaskSlot)) (entries count : ℕ) → part ≡ log_of journal st.prints → entries ≡ length journal → count ≡ lim.tasks
-      → AreWordsOf st.cells cells → words ≡ head_words st.asked entries ++ (cells ++ (gap_words ++ (made_words st.tasks ++ unmade_words (count - length st.tasks))))
+      → AreWordsOf st.cells cells → words ≡ head_words st.asked entries ++ (in_lines cells ++ (made_words st.tasks ++ unmade_words (count - length st.tasks)))
       → slots ≡ map held_slot st.tasks ++ drop (length st.tasks) (replicate count None) → ShowsRun p lim part st words slots
   shows_run part words cells slots entries count part_is entries_are count_is are words_are slots_are =
       subst (λ (l : List NumberedEntry). ShowsRun p lim l st words slots) (sym part_is) (record {
@@ -58,6 +58,6 @@ module _ (p : Program) (lim : Bounds) (well : IsWellFormed p) (within : IsWithin
         prints = log_prints p lim journal st run;
         laid =
             laid p lim log st entries cells are (entries_are ∙ sym (log_length journal st.prints)) cells_many tasks_few words slots
-            (words_are ∙ ap (λ (n : ℕ). head_words st.asked entries ++ (cells ++ (gap_words ++ (made_words st.tasks ++ unmade_words (n - length st.tasks))))) count_is)
+            (words_are ∙ ap (λ (n : ℕ). head_words st.asked entries ++ (in_lines cells ++ (made_words st.tasks ++ unmade_words (n - length st.tasks)))) count_is)
             (slots_are ∙ ap (λ (n : ℕ). map held_slot st.tasks ++ drop (length st.tasks) (replicate n None)) count_is);
       })

@@ -1,4 +1,4 @@
-use Rattle.std.proofs.Common.{◌<◌, ◌+◌, ◌++◌, ℕ, ℤ, [], ◌∷◌, sym, ap, subst, ◌∙◌, rules, arith, w32}
+use Rattle.std.proofs.Common.{◌<◌, ◌+◌, ◌*◌, ◌++◌, ℕ, ℤ, [], ◌∷◌, sym, ap, subst, ◌∙◌, rules, arith, w32}
 use Rattle.std.specs.Prelude.{◌^◌}
 use Rattle.std.proofs.lemmas.Int.{to_z-of_z}
 use mathlib.Core.Option as core
@@ -12,13 +12,13 @@ pub value_of-requires : goal.value_of-requires
 value_of-requires c =
     let below = c.loop-c-test.true in
     let within = c.requires.within in
-    subst (λ (o : core.Option ℕ). number_at o < 2 ^ 32) (word_at c.args.words.now (8 + c.loop-c.c) (omega (arith, below, within))) (c.requires.small c.loop-c.c below)
+    subst (λ (o : core.Option ℕ). number_at o < 2 ^ 32) (word_at c.args.words.now (8 + 8 * c.loop-c.c) (omega (arith, below, within))) (c.requires.small c.loop-c.c below)
 
 pub loop-c-preserved : goal.loop-c-preserved
 loop-c-preserved c =
     let below = c.loop-c-test.true in
     let within = c.requires.within in
-    let there = word_at c.args.words.now (8 + c.loop-c.c) (omega (arith, below, within)) in
+    let there = word_at c.args.words.now (8 + 8 * c.loop-c.c) (omega (arith, below, within)) in
     let fits : SFits w32 c.value_of.result = search rules in
     let pushed = c.in_ok-push.ensures.ok ∙ ap (λ (x : ℤ). c.loop-c.cells ++ x ∷ []) (to_z-of_z w32 c.value_of.result fits) in
     cells_step c.args.words.now c.loop-c.c c.loop-c.cells c.push.new.self c.value_of.result c.loop-c.invariant pushed

@@ -13,7 +13,7 @@ pub loop-t-preserved : goal.loop-t-preserved
 loop-t-preserved c =
     let words = c.args.words.now in
     let t = c.loop-t.t in
-    let place : ℕ = c.args.first + 2 * c.loop-t.t + 1 in
+    let place : ℕ = c.args.first + 9 * c.loop-t.t + 1 in
     let before = c.loop-t.invariant in
     let below = c.loop-t-test.true in
     let count = c.len-t-end.ensures in

@@ -1,4 +1,4 @@
-use Rattle.std.proofs.Common.{◌≡◌, ◌<◌, ◌+◌, ℕ, List, map, refl, sym, ap, subst, ◌∙◌, arith}
+use Rattle.std.proofs.Common.{◌≡◌, ◌<◌, ◌+◌, ◌*◌, ℕ, List, map, refl, sym, ap, subst, ◌∙◌, arith}
 use Rattle.std.specs.Prelude.{◌^◌, slice_index}
 use mathlib.Core.Option as core
 use lib.ListN.{get_elem?}
@@ -15,7 +15,7 @@ pub cells_of-requires-clause-small : goal.cells_of-requires-clause-small
 cells_of-requires-clause-small g c i below =
     let count = c.requires.cells in
     let word = c.requires.shows.cells i (omega (arith, below, count)) in
-    subst (λ (l : List ℕ). number_at (get_elem? l (8 + i)) < 2 ^ 32) (sym c.as_slice-words.ensures) (subst (λ (o : core.Option ℕ). number_at o < 2 ^ 32) (sym word.there) word.small)
+    subst (λ (l : List ℕ). number_at (get_elem? l (8 + 8 * i)) < 2 ^ 32) (sym c.as_slice-words.ensures) (subst (λ (o : core.Option ℕ). number_at o < 2 ^ 32) (sym word.there) word.small)
 
 pub links_of-requires : goal.links_of-requires
 links_of-requires g c =
@@ -27,8 +27,8 @@ links_of-requires g c =
     let words = c.args.left.words in
     let slots = c.args.left.slots in
     let tasks =
-    tasks_are p lim well (state_after p lim journal) reached words slots c.requires.shows c.requires.rest c.as_slice-words.result.now (16 + c.args.cells) c.in_ok-tasks.tasks c.as_slice-words.ensures
-    (ap (λ (n : ℕ). 16 + n) c.requires.cells) c.in_ok-tasks.ensures in
+    tasks_are p lim well (state_after p lim journal) reached words slots c.requires.shows c.requires.rest c.as_slice-words.result.now (8 + 8 * c.args.cells) c.in_ok-tasks.tasks c.as_slice-words.ensures
+    (ap (λ (n : ℕ). 8 + 8 * n) c.requires.cells) c.in_ok-tasks.ensures in
     rows_ordered p lim well (state_after p lim journal) reached words slots c.requires.shows c.requires.rest c.requires.accepted.1 c.as_slice.result.now (c.as_slice.ensures ∙ tasks)
 
 pub returns : goal.returns
@@ -44,8 +44,8 @@ returns g c =
     let read = c.as_slice-words.ensures in
     let many = rest.word_count in
     let tasks =
-    tasks_are p lim well (state_after p lim journal) reached words slots c.requires.shows rest c.as_slice-words.result.now (16 + c.args.cells) c.in_ok-tasks.tasks c.as_slice-words.ensures
-    (ap (λ (n : ℕ). 16 + n) c.requires.cells) c.in_ok-tasks.ensures in
+    tasks_are p lim well (state_after p lim journal) reached words slots c.requires.shows rest c.as_slice-words.result.now (8 + 8 * c.args.cells) c.in_ok-tasks.tasks c.as_slice-words.ensures
+    (ap (λ (n : ℕ). 8 + 8 * n) c.requires.cells) c.in_ok-tasks.ensures in
     let clock : c.asked_of-asked.result ≡ (state_after p lim journal).asked =
     c.asked_of-asked.ensures.value ∙ ap (λ (l : List ℕ). asked_of_clock (slice_index l 0)) read ∙ (sym (ap (λ (o : core.Option ℕ). asked_of_clock (number_at o)) (word_at words 0 (omega (arith, many)))) ∙ rest.asked) in
     state_is p lim well (state_after p lim journal) reached words slots c.requires.shows rest c.in_ok-values.values c.in_ok-tasks.tasks c.in_ok-links.links c.args.prints

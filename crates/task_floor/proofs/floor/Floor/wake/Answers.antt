@@ -29,6 +29,13 @@ contents_of-requires-clause-within g c r among =
     let many = c.nodes-nodes.ensures.count in
     omega (arith, low, many)
 
+pub word_count-requires-clause-counts : goal.word_count-requires-clause-counts
+word_count-requires-clause-counts g c =
+    let within = subst (λ (b : Bounds). IsWithin b.fuel b.tasks) (c.lim.view_is ∙ c.requires.named.1) c.lim.invariant in (
+      c.len-cell_count.ensures ∙ cells_many g.N.Named.prog g.N.Named.lim c.requires.accepted.0 within c.args.rest.journal c.args.rest.state c.requires.run,
+      ap (λ (b : Bounds). b.tasks) (c.lim.view_is ∙ c.requires.named.1),
+    )
+
 pub words_of-requires-clause-clock : goal.words_of-requires-clause-clock
 words_of-requires-clause-clock g c =
     let within = subst (λ (b : Bounds). IsWithin b.fuel b.tasks) (c.lim.view_is ∙ c.requires.named.1) c.lim.invariant in
@@ -57,7 +64,7 @@ open-requires-clause-nodes g c = subst IsTreeOfPaths c.requires.named.0 c.nodes-
 pub open-requires-clause-counts : goal.open-requires-clause-counts
 open-requires-clause-counts g c =
     let within = subst (λ (b : Bounds). IsWithin b.fuel b.tasks) (c.lim.view_is ∙ c.requires.named.1) c.lim.invariant in (
-      c.len-2.ensures ∙ cells_many g.N.Named.prog g.N.Named.lim c.requires.accepted.0 within c.args.rest.journal c.args.rest.state c.requires.run,
+      c.len-cell_count.ensures ∙ cells_many g.N.Named.prog g.N.Named.lim c.requires.accepted.0 within c.args.rest.journal c.args.rest.state c.requires.run,
       ap (λ (b : Bounds). b.tasks) (c.lim.view_is ∙ c.requires.named.1),
     )
 
