@@ -1,9 +1,7 @@
 -- Arguments that are evaluated one after another.
-use Rattle.std.proofs.Common.{◌≡◌, ℕ, ℤ, ◌+◌, ◌<◌, ◌≤◌, ◌-◌, get_or, take, Some, Ok, Err, List, [], ◌∷◌, ◌++◌, drop, length, refl, ap, sym, ◌∙◌, subst, arith}
-use Rattle.std.specs.Prelude.{slice_get}
+use Rattle.std.proofs.Common.{◌≡◌, ℕ, ℤ, ◌+◌, ◌≤◌, ◌-◌, take, Ok, Err, List, [], ◌∷◌, ◌++◌, drop, length, refl, ap, sym, ◌∙◌, subst, arith}
 use Rattle.std.proofs.lemmas.List.{drop-append-le, length-append, length-drop, take-append-le, take_all}
 use Rattle.std.proofs.Math.Seq.{drop-append_seam, drop-length, take-append_seam, take-length}
-use Rattle.std.proofs.lemmas.Option.{get_or_from_slice_get, slice_get_within}
 use Rattle.twe_program.specs.Program.{Program}
 use Rattle.twe_program.specs.Expression.{Expression, Arguments, arguments_of}
 use Rattle.seg_exec.specs.declared.steps.continuation.Goal.{Goal}
@@ -17,7 +15,6 @@ use Rattle.seg_exec.specs.inner.steps.Views.{config_of}
 use Rattle.seg_exec.specs.inner.strides.Moving.{gathering_from}
 use Rattle.seg_exec.specs.inner.steps.Steps.{gathering, on, worked}
 use Rattle.seg_exec.specs.inner.strides.Strides.{Ends, EvaluatesTo, Goes, MayEvaluate, MayGo, doing, fault_ending}
-use Rattle.seg_exec.proofs.strides.GoingOn.{next_is}
 use Rattle.seg_exec.proofs.strides.Performing.{placed}
 use Rattle.seg_exec.proofs.strides.Strides.{ends_alike, may_then, silent, then_ends, then_goes}
 
@@ -25,33 +22,9 @@ use Rattle.seg_exec.proofs.strides.Strides.{ends_alike, may_then, silent, then_e
 abbrev pub gather_at : {C : Type 0} → List ℤ → ℕ → List Expression → Goal → Standing C → Standing C
 gather_at taken at args goal s = doing (Gather taken (arguments_of (drop at args)) goal) s
 
--- the argument that was found is the next
-pub argument_is : (args : List Expression) (at : ℕ) (e : Expression) → slice_get args at ≡ Some e → drop at args ≡ e ∷ drop (at + 1) args
-argument_is args at e found = next_is args at e (slice_get_within args at e found) (sym (get_or_from_slice_get args at e e found))
-
-pub within_args : (args : List Expression) (at : ℕ) (e : Expression) → slice_get args at ≡ Some e → at + 1 ≤ length args
-within_args args at e found = let within : at < length args = slice_get_within args at e found in omega arith
-
 -- the slice from an element on
 pub rest_of : (args : List Expression) (at : ℕ) → take (length args - at) (drop at args) ≡ drop at args
 rest_of args at = let short : length (drop at args) ≤ length args - at = omega (arith, length-drop at args) in take_all (length args - at) (drop at args) short
-
-nothing_in : (args : List Expression) → length args ≡ 0 → args ≡ []
-nothing_in [] is = refl
-nothing_in (first ∷ others) is = absurd (cc)
-
--- what the slice from an element on has, if it has no element, or if it has a first one
-pub none_left : (args : List Expression) (at : ℕ) → length (take (length args - at) (drop at args)) < 1 → drop at args ≡ []
-none_left args at short =
-    let none : length (take (length args - at) (drop at args)) ≡ 0 = omega (arith, short) in
-    sym (rest_of args at) ∙ nothing_in (take (length args - at) (drop at args)) none
-
-pub one_left : (args : List Expression) (at : ℕ) (first : Expression) → let slice = take (length args - at) (drop at args) in
-    1 ≤ length slice → first ≡ get_or slice 0 first → drop at args ≡ first ∷ take (length slice - 1) (drop 1 slice)
-one_left args at first long is =
-    let slice = take (length args - at) (drop at args) in
-    let within : 0 < length slice = omega (arith, long) in
-    sym (rest_of args at) ∙ next_is slice 0 first within is ∙ ap (λ (l : List Expression). first ∷ l) (sym (rest_of slice 1))
 
 module _ {C : Type 0} (p : Program) (ways : Ways C) (taken : List ℤ) (at : ℕ) (args : List Expression) (goal : Goal) (e : Expression) (is : drop at args ≡ e ∷ drop (at + 1) args) where
   to_argument : (config : Config) (cells : C) (prints : List ℤ)

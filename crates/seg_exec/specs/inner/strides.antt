@@ -5,4 +5,5 @@ pub mod Moving
 pub mod Picking
 pub mod Plainly
 pub mod Strides
+pub mod Taking
 pub mod Turning

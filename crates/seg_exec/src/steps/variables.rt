@@ -10,7 +10,7 @@ use twe_base::{Ints, Memory};
 #[derive(Debug, Drop)]
 pub(crate) struct Variables {
     /// The variables of the callers, the first caller first, and then those of the active body.
-    values: Ints,
+    values: Vec<i32>,
     /// Where those of the active body begin.
     start: usize,
 }
@@ -21,9 +21,9 @@ impl Model for Variables {
 
     ghost Value = { Bodies };
 
-    ghost view = { λ v. record { callers = take v.start v.values; active = drop v.start v.values } };
+    ghost view = { λ v. record { callers = take v.start v.values.items; active = drop v.start v.values.items } };
 
-    ghost invariant = { λ v. v.start ≤ length v.values };
+    ghost invariant = { λ v. v.start ≤ length v.values.items };
 }
 
 impl Variables {
@@ -32,7 +32,7 @@ impl Variables {
         ensures { result ≡ record { callers = []; active = vars } }
     {
         Variables {
-            values: vars,
+            values: vars.into_vec(),
             start: 0,
         }
     }
@@ -69,22 +69,25 @@ impl Variables {
         ensures { self.new ≡ with_active (slice_set self.old.active var value) self.old }
     {
         let _all = self.values.len();
-        self.values.set(self.start + var, value);
+        self.values[self.start + var] = value;
     }
 
-    /// Appends a variable to those of the active body.
+    /// Appends a variable to those of the active body. It writes the variable where it stays, and is inlined.
     #[inline(always)]
     pub(crate) fn push(&mut self, value: i32) -> Result<(), Memory>
         ensures { OnOk result (self.new ≡ with_active (self.old.active ++ value ∷ []) self.old) }
     {
-        self.values.push(value)
+        self.values.reserve(1)?;
+        self.values.push_reserved(value);
+        Ok(())
     }
 
     /// Appends variables to those of the active body.
     pub(crate) fn push_all(&mut self, values: &[i32]) -> Result<(), Memory>
         ensures { OnOk result (self.new ≡ with_active (self.old.active ++ values.now) self.old) }
     {
-        self.values.push_all(values)
+        self.values.extend_from_slice(values)?;
+        Ok(())
     }
 
     /// Appends variables, and then one more, to those of the active body.
@@ -140,7 +143,7 @@ impl Variables {
         ensures { IfOk result (λ vars. vars ≡ self.active) }
     {
         if self.start == 0 {
-            return Ok(self.values);
+            return Ok(Ints::from(self.values));
         }
         Ints::from_slice(alloc, &self.values.as_slice()[self.start..])
     }

@@ -1,13 +1,13 @@
 //! The arguments of a call that call no method, evaluated at once.
-ghost use Rattle.std.specs.Prelude.{◌≡◌, ◌≤◌, true, [], Some, IfOk, IfSome, drop, length, option_copied, slice_get};
+ghost use Rattle.std.specs.Prelude.{◌≡◌, ◌≤◌, [], IfOk, drop, length, option_copied};
 ghost use Rattle.twe_program.specs.Expression.{argument, arguments_of, no_more};
 ghost use Rattle.seg_exec.specs.declared.steps.continuation.Goal.TheVariants.{Enter};
 ghost use Rattle.seg_exec.specs.inner.steps.Continuations.{Gather, Take};
 ghost use Rattle.seg_exec.specs.inner.steps.Steps.{entering, faulted};
 ghost use Rattle.seg_exec.specs.inner.steps.Views.{config_before, config_of};
-ghost use Rattle.twe_program.specs.Expression.{is_plain};
 ghost use Rattle.seg_exec.specs.inner.strides.Moving.{Moves, MovesOn, gathering_from, step_on, course};
 ghost use Rattle.seg_exec.specs.inner.strides.Strides.{MayGo, MayStride};
+ghost use Rattle.seg_exec.specs.inner.strides.Taking.{MayTake, Takes};
 ghost use Rattle.seg_exec.specs.inner.steps.Reached.{standing};
 ghost use Rattle.seg_exec.specs.Access.{ways_of};
 
@@ -22,19 +22,60 @@ use crate::steps::request::Ending;
 use crate::strides::onward::Onward;
 use crate::strides::plain::is_plain;
 use crate::strides::serve::serve;
-use crate::strides::value::value_of;
+use crate::strides::value::{Fault, value_of};
 use std::alloc::Global;
 use twe_base::{Ints, MAX_ACTIVE_CALLS, Memory, Place};
 use twe_program::{Args, Decl, Expr, Prog};
 
-/// The argument of this number, if there is one and it calls no method.
-fn plain_argument(args: &[Expr], at: usize) -> Option<&Expr>
-    ensures { IfSome result (λ arg. (slice_get args.now at ≡ Some arg.now) × (is_plain arg.now ≡ true)) }
+/// How far the arguments of a call have values.
+#[derive(Clone, Copy, Debug)]
+enum Taken<'a> {
+    /// All of them have values.
+    All,
+    /// Those before one that calls a method have values.
+    Left {
+        /// The one that calls a method.
+        first: &'a Expr,
+        /// Those after it.
+        others: &'a [Expr],
+    },
+    /// One met a fault. The values of those before it are dropped.
+    Faulted(Fault),
+}
+
+/// Evaluates the arguments up to the first that calls a method. The values of those before them are the variables of the active
+/// body after the first `count`, and so are theirs.
+#[inline(always)]
+fn take_plain<'a, C: Cells>(
+    p: &Prog,
+    machine: &mut Machine<'_>,
+    cells: &mut C,
+    count: usize,
+    args: &'a [Expr],
+) -> Result<Taken<'a>, Memory>
+    requires within { count ≤ length machine.old.vars.active }
+    requires may { MayTake p.now (ways_of C.known C.may_read C.may_write C.rule) count (arguments_of args.now)
+        machine.old cells.old }
+    ensures { IfOk result (λ taken. Takes p.now (ways_of C.known C.may_read C.may_write C.rule) count args.now
+        machine.old cells.old taken machine.new cells.new) }
 {
-    match args.get(at) {
-        None => None,
-        Some(arg) => if is_plain(arg) { Some(arg) } else { None },
+    let mut next = 0;
+    while next < args.len() {
+        let first = &args[next];
+        if !is_plain(first) {
+            let others = &args[next + 1..];
+            return Ok(Taken::Left { first, others });
+        }
+        match value_of(first, p, machine.vars.first(count), cells) {
+            Err(fault) => {
+                machine.vars.truncate(count);
+                return Ok(Taken::Faulted(fault));
+            }
+            Ok(value) => machine.vars.push(value)?,
+        }
+        next += 1;
     }
+    Ok(Taken::All)
 }
 
 /// Ends the run with a fault, and drops the values of the arguments.
@@ -125,8 +166,8 @@ fn gathered<'a, C: Cells>(
 }
 
 /// Goes on to an argument that calls a method. The values of those before it are the variables of the active body after the first
-/// `count`.
-#[inline(always)]
+/// `count`. It stands apart, so that a call whose arguments call nothing stays small.
+#[inline(never)]
 fn ask<'a, C: Cells>(
     alloc: Global,
     p: &'a Prog,
@@ -171,21 +212,16 @@ fn gather<'a, C: Cells>(
         (gathering_from count (arguments_of args.now) goal machine.old cells.old prints.old)
         (course onward machine.new) (standing machine.new cells.new prints.new)) }
 {
-    let mut next = 0;
-    while let Some(arg) = plain_argument(args, next) {
-        match value_of(arg, p, machine.vars.first(count), cells) {
-            Err(fault) => {
-                machine.vars.truncate(count);
-                machine.ending = Some(fault.ending());
-                return Ok(Onward::End);
-            }
-            Ok(value) => machine.vars.push(value)?,
+    let taken = take_plain(p, machine, cells, count, args)?;
+    match taken {
+        Taken::All => gathered(alloc, p, machine, cells, prints, count, goal),
+        Taken::Left { first, others } => {
+            ask(alloc, p, machine, cells, prints, count, first, others, goal)
         }
-        next += 1;
-    }
-    match &args[next..] {
-        [] => gathered(alloc, p, machine, cells, prints, count, goal),
-        [first, others @ ..] => ask(alloc, p, machine, cells, prints, count, first, others, goal),
+        Taken::Faulted(fault) => {
+            machine.ending = Some(fault.ending());
+            Ok(Onward::End)
+        }
     }
 }
 
@@ -250,15 +286,19 @@ pub(crate) fn call<'a, C: Cells>(
         machine.old cells.old prints.old machine.new cells.new prints.new) }
 {
     let count = machine.vars.len();
-    let goal = Goal::Enter { method, place };
-    gather(
-        alloc,
-        p,
-        machine,
-        cells,
-        prints,
-        count,
-        args.items.as_slice(),
-        goal,
-    )
+    let taken = take_plain(p, machine, cells, count, args.items.as_slice())?;
+    match taken {
+        Taken::All => {
+            let call = ActiveCall { method, place };
+            enter(machine, p.methods.get(method as usize), count, call)
+        }
+        Taken::Left { first, others } => {
+            let goal = Goal::Enter { method, place };
+            ask(alloc, p, machine, cells, prints, count, first, others, goal)
+        }
+        Taken::Faulted(fault) => {
+            machine.ending = Some(fault.ending());
+            Ok(Onward::End)
+        }
+    }
 }

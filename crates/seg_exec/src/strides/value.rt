@@ -1,8 +1,8 @@
 //! The value of an expression that calls no method, by recursion over the expression.
-ghost use Rattle.std.specs.Prelude.{◌≡◌, true, slice_get};
+ghost use Rattle.std.specs.Prelude.{◌≡◌, true, Some, slice_get};
 ghost use Rattle.seg_exec.specs.Access.{value_in, ways_of};
 ghost use Rattle.seg_exec.specs.Arithmetic.{operated};
-ghost use Rattle.seg_exec.specs.inner.strides.Leaves.{leaf_value, pair_value};
+ghost use Rattle.seg_exec.specs.inner.strides.Leaves.{leaf_value, pair_value, value_on};
 ghost use Rattle.twe_program.specs.Expression.{is_plain};
 ghost use Rattle.seg_exec.specs.inner.strides.Strides.{EvaluatesTo, MayEvaluate, MayReadAt, ReadsAt, fault_ending, quotient_or};
 
@@ -66,14 +66,17 @@ fn read<C: Cells>(
     }
 }
 
-/// The value of an expression that is an integer literal or a variable; none of another.
+/// The value of an expression that is an integer literal or a variable; none of another. A variable is looked for first: most
+/// operands are variables.
 #[inline(always)]
 fn leaf_value(expr: &Expr, vars: &[i32]) -> Option<i32>
     ensures { result ≡ leaf_value expr.now vars.now }
 {
+    if let ExprKind::Var { var, .. } = &expr.kind {
+        return Some(var_in(vars, *var));
+    }
     match &expr.kind {
         ExprKind::Lit(value) => Some(*value),
-        ExprKind::Var { var, .. } => Some(var_in(vars, *var)),
         _ => None,
     }
 }
@@ -92,7 +95,20 @@ fn apply(op: BinOp, left: i32, right: i32, place: Place) -> Result<i32, Fault>
     }
 }
 
+/// The value of an operator on two values, of which the left one may decide it; none if it divides by zero.
+#[inline(always)]
+fn value_on(op: BinOp, left: i32, right: i32) -> Option<i32>
+    ensures { result ≡ value_on op (Some left) (Some right) }
+{
+    match op {
+        BinOp::Or => Some(if is_true(left) { 1 } else { right }),
+        BinOp::And => Some(if is_true(left) { right } else { 0 }),
+        _ => operate(op, left, right),
+    }
+}
+
 /// The value of an operator on integer literals and variables; none of another expression, or if it divides by zero.
+#[inline(always)]
 fn pair_value(expr: &Expr, vars: &[i32]) -> Option<i32>
     ensures { result ≡ pair_value expr.now vars.now }
 {
@@ -102,19 +118,19 @@ fn pair_value(expr: &Expr, vars: &[i32]) -> Option<i32>
             left,
             right,
             ..
-        } => match (leaf_value(left, vars), leaf_value(right, vars)) {
-            (Some(left), Some(right)) => match decide(*op, is_true(left)) {
-                Some(value) => Some(value),
-                None => operate(*op, left, right),
+        } => match leaf_value(left, vars) {
+            None => None,
+            Some(left) => match leaf_value(right, vars) {
+                None => None,
+                Some(right) => value_on(*op, left, right),
             },
-            _ => None,
         },
         _ => None,
     }
 }
 
-/// Evaluates an expression that calls no method. It is inlined, so that literals and variables cost no call, and an operator on
-/// them costs one.
+/// Evaluates an expression that calls no method. It is inlined, so that literals, variables, and an operator on them cost no
+/// call.
 #[cycle(value)]
 #[inline(always)]
 pub(crate) fn value_of<C: Cells>(

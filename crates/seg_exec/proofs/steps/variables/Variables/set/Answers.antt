@@ -7,7 +7,7 @@ use Rattle.seg_exec.proofs.steps.variables.Variables.set.Goals as goal
 pub returns : goal.returns
 returns c =
     let start = c.self.inside.start in
-    let values = c.self.inside.values in
+    let values = c.self.inside.values.items in
     let fits : SFits w32 c.args.value = search rules in
-    ap (bodies_at start) (c.set.ensures ∙ ap (λ (v : ℤ). slice_set values (start + c.args.var) v) (to_z-of_z w32 c.args.value fits))
+    ap (λ (v : ℤ). bodies_at start (slice_set values (start + c.args.var) v)) (to_z-of_z w32 c.args.value fits)
     ∙ set_at start c.args.var c.args.value values c.args.self.now c.self.view_is
