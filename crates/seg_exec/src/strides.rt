@@ -14,6 +14,7 @@ pub(crate) mod onward;
 mod perform;
 mod pick;
 mod plain;
+mod return_value;
 pub(crate) mod run;
 mod serve;
 mod turn;

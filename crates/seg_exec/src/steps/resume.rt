@@ -198,11 +198,19 @@ impl<'a> Machine<'a> {
         Ok(Request::Nothing)
     }
 
+    /// Schedules the return of the latest value from the body.
+    #[inline(always)]
+    fn push_return(&mut self) -> Result<(), Memory>
+        ensures { IfOk result (λ _. config_of self.new ≡ to_do Unwind (config_of self.old)) }
+    {
+        self.push(Continuation::UseValue(ValueUse::Unwind))
+    }
+
     /// Schedules the rest of a return.
     fn unwind_on(&mut self) -> Result<Request, Memory>
         ensures { IfOk result (λ request. (request, config_of self.new) ≡ on (to_do Unwind (config_of self.old))) }
     {
-        self.push(Continuation::UseValue(ValueUse::Unwind))?;
+        self.push_return()?;
         Ok(Request::Nothing)
     }
 
@@ -226,6 +234,10 @@ impl<'a> Machine<'a> {
         match work.recovered() {
             Recovered::Caller { count, .. } => self.hand_back(count),
             Recovered::Block(_) => self.unwind_on(),
+            Recovered::Return => {
+                self.push_return()?;
+                self.unwind_on()
+            }
             Recovered::Nothing => self.unwind_on(),
         }
     }
@@ -243,6 +255,7 @@ impl<'a> Machine<'a> {
             match work.recovered() {
                 Recovered::Caller { count, .. } => return self.hand_back(count),
                 Recovered::Block(_) => {}
+                Recovered::Return => {}
                 Recovered::Nothing => {}
             }
         }
@@ -261,6 +274,10 @@ impl<'a> Machine<'a> {
             Recovered::Block(position) => {
                 let mut suspension = suspension;
                 suspension.close(position)?;
+                self.suspend_below(suspension)
+            }
+            Recovered::Return => {
+                self.push_return()?;
                 self.suspend_below(suspension)
             }
             Recovered::Nothing => self.suspend_below(suspension),

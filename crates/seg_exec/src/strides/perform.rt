@@ -16,6 +16,7 @@ use crate::strides::choose::{choose, choose_first};
 use crate::strides::evaluate::{evaluate, evaluate_then, right_of};
 use crate::strides::gather::{gather_more, take};
 use crate::strides::onward::Onward;
+use crate::strides::return_value::{apply_then_return, return_value, right_then_return};
 use crate::strides::serve::{serve, use_value};
 use crate::strides::turn::turn;
 use std::alloc::Global;
@@ -62,9 +63,7 @@ fn execute<'a, C: Cells>(
             evaluate_then(alloc, p, machine, cells, prints, condition, &then)
         }
         StmtKind::If(arms) => choose_first(alloc, p, machine, cells, prints, arms),
-        StmtKind::Return(Some(value)) => {
-            evaluate_then(alloc, p, machine, cells, prints, value, &ValueUse::Unwind)
-        }
+        StmtKind::Return(Some(value)) => { return_value(alloc, p, machine, cells, prints, value) }
         StmtKind::Print { value, place } => {
             let then = ValueUse::PrintValue(*place);
             evaluate_then(alloc, p, machine, cells, prints, value, &then)
@@ -148,9 +147,7 @@ fn enter_statement<'a, C: Cells>(
         StmtKind::If(arms) => {
             branch(alloc, p, machine, cells, prints, arms, block, at + 1, stmts)
         }
-        StmtKind::Return(Some(value)) => {
-            evaluate_then(alloc, p, machine, cells, prints, value, &ValueUse::Unwind)
-        }
+        StmtKind::Return(Some(value)) => { return_value(alloc, p, machine, cells, prints, value) }
         _ => begin_statement(alloc, p, block, at, stmts, machine, cells, prints),
     }
 }
@@ -210,6 +207,12 @@ pub(crate) fn perform<'a, C: Cells>(
         }
         Continuation::UseValue(ValueUse::Right { op, right, place }) => {
             right_of(alloc, p, machine, cells, prints, op, right, place)
+        }
+        Continuation::RightThenReturn { op, right, place } => {
+            right_then_return(alloc, p, machine, cells, prints, op, right, place)
+        }
+        Continuation::ApplyThenReturn { op, place } => {
+            apply_then_return(p, machine, cells, prints, op, place)
         }
         Continuation::UseValue(then) => use_value(p, machine, cells, prints, &then),
         Continuation::Gather(gathering) => {
