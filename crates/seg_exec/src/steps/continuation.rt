@@ -254,7 +254,8 @@ impl Continuation<'_> {
     #[inline(always)]
     pub(crate) fn recovered(self) -> Recovered
         ensures recovery { (callers : List ℤ) → recovery_of callers result ≡ recovered_from (continuation_of callers self.entry) }
-        ensures returning { (others : List continuations.Continuation) → returning_past result others ≡ returning_below self.entry others }
+        ensures returning { (others : List continuations.Continuation)
+            → returning_past result others ≡ returning_below self.entry others }
         ensures callers { (callers : List ℤ) → callers_past result callers ≡ callers_below self.entry callers }
         ensures calls { (calls : List ActiveCall) → calls_past result calls ≡ calls_above self.entry calls }
     {
