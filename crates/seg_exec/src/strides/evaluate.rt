@@ -148,7 +148,7 @@ pub(crate) fn evaluate<'a, C: Cells>(
 
 /// Evaluates an expression that calls no method and uses its value for `then`.
 #[inline(always)]
-pub(crate) fn use_at_once<'a, C: Cells>(
+fn use_at_once<'a, C: Cells>(
     p: &'a Prog,
     machine: &mut Machine<'a>,
     cells: &mut C,

@@ -1,9 +1,10 @@
 //! The return of the value of an expression from a body. That of an operator whose operands call methods takes one frame.
-ghost use Rattle.std.specs.Prelude.{IfOk};
+ghost use Rattle.std.specs.Prelude.{◌≡◌, true, IfOk};
 ghost use Rattle.seg_exec.specs.Access.{ways_of};
 ghost use Rattle.seg_exec.specs.inner.steps.Continuations.{Apply, Evaluate, Right, Unwind};
 ghost use Rattle.seg_exec.specs.inner.steps.Reached.{standing};
 ghost use Rattle.seg_exec.specs.inner.strides.Moving.{Moves, course};
+ghost use Rattle.seg_exec.specs.inner.strides.Plainly.{is_plain};
 ghost use Rattle.seg_exec.specs.inner.strides.Strides.{MayGo, doing};
 
 use crate::arithmetic::{decide, is_true, operate};
@@ -12,10 +13,10 @@ use crate::fault::FaultCause;
 use crate::steps::continuation::{Continuation, ValueUse};
 use crate::steps::machine::Machine;
 use crate::steps::request::Ending;
-use crate::strides::evaluate::{begin, begin_one, operand, use_at_once};
+use crate::strides::evaluate::{begin, begin_one, operand};
 use crate::strides::onward::Onward;
 use crate::strides::plain::is_plain;
-use crate::strides::serve::leave;
+use crate::strides::serve::leave_with;
 use crate::strides::value::value_of;
 use std::alloc::Global;
 use twe_base::{Ints, Memory, Place};
@@ -55,6 +56,31 @@ fn begin_return<'a, C: Cells>(
     begin_one(alloc, p, machine, cells, prints, expr)
 }
 
+/// Evaluates an expression that calls no method and returns its value from the body.
+#[inline(always)]
+fn return_at_once<'a, C: Cells>(
+    p: &'a Prog,
+    machine: &mut Machine<'a>,
+    cells: &mut C,
+    prints: &mut Ints,
+    expr: &'a Expr,
+) -> Result<Onward, Memory>
+    requires plain { is_plain expr.now ≡ true }
+    requires may { MayGo p.now (ways_of C.known C.may_read C.may_write C.rule)
+        (doing (Evaluate expr.now) (doing Unwind (standing machine.old cells.old prints.old))) }
+    ensures { IfOk result (λ onward. Moves p.now (ways_of C.known C.may_read C.may_write C.rule)
+        (doing (Evaluate expr.now) (doing Unwind (standing machine.old cells.old prints.old)))
+        (course onward machine.new) (standing machine.new cells.new prints.new)) }
+{
+    match value_of(expr, p, machine.vars.as_slice(), cells) {
+        Err(fault) => {
+            machine.ending = Some(fault.ending());
+            Ok(Onward::End)
+        }
+        Ok(value) => leave_with(p, machine, cells, prints, value),
+    }
+}
+
 /// Evaluates an expression and returns its value from the body. If the expression calls a method, it makes only the first step.
 #[inline(always)]
 pub(crate) fn return_value<'a, C: Cells>(
@@ -72,7 +98,7 @@ pub(crate) fn return_value<'a, C: Cells>(
         (course onward machine.new) (standing machine.new cells.new prints.new)) }
 {
     if is_plain(expr) {
-        return use_at_once(p, machine, cells, prints, expr, &ValueUse::Unwind);
+        return return_at_once(p, machine, cells, prints, expr);
     }
     begin_return(alloc, p, machine, cells, prints, expr)
 }
@@ -103,10 +129,7 @@ pub(crate) fn apply_then_return<'a, C: Cells>(
             });
             Ok(Onward::End)
         }
-        Some(value) => {
-            machine.push_operand(value)?;
-            leave(p, machine, cells, prints)
-        }
+        Some(value) => leave_with(p, machine, cells, prints, value),
     }
 }
 
@@ -166,10 +189,7 @@ pub(crate) fn right_then_return<'a, C: Cells>(
 {
     let left = machine.pop_operand();
     match decide(op, is_true(left)) {
-        Some(value) => {
-            machine.push_operand(value)?;
-            leave(p, machine, cells, prints)
-        }
+        Some(value) => leave_with(p, machine, cells, prints, value),
         None => {
             machine.push_operand(left)?;
             return_right(alloc, p, machine, cells, prints, op, right, place)
