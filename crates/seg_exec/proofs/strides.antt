@@ -7,6 +7,7 @@ pub mod Moving
 pub mod Performing
 pub mod Returning
 pub mod GivenBack
+pub mod Applying
 -- Expressions and assignments that call no method.
 pub mod Evaluating
 pub mod Assigning

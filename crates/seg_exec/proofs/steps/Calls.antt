@@ -2,7 +2,7 @@
 use Rattle.std.proofs.Common.{◌+◌, ◌≤◌, List, [], ◌∷◌, length, arith}
 use Rattle.seg_exec.specs.declared.active.ActiveCall.{ActiveCall}
 use Rattle.seg_exec.specs.declared.steps.continuation.Continuation.{Continuation}
-use Rattle.seg_exec.specs.declared.steps.continuation.Continuation.TheVariants.{Evaluate, Execute, Rest, Choose, UseValue, Gather, Take, Suspend, Leave}
+use Rattle.seg_exec.specs.declared.steps.continuation.Continuation.TheVariants.{Evaluate, Execute, Rest, Choose, UseValue, RightThenReturn, ApplyThenReturn, Gather, Take, Suspend, Leave}
 use Rattle.seg_exec.specs.inner.steps.Calls.{calls_above, calls_of}
 
 above_within : (work : Continuation) (calls : List ActiveCall) → length (calls_above work calls) ≤ length calls + 1
@@ -11,6 +11,8 @@ above_within (Execute s) calls = omega arith
 above_within (Rest block at stmts) calls = omega arith
 above_within (Choose block arms last) calls = omega arith
 above_within (UseValue then) calls = omega arith
+above_within (RightThenReturn op right place) calls = omega arith
+above_within (ApplyThenReturn op place) calls = omega arith
 above_within (Gather g) calls = omega arith
 above_within (Take g) calls = omega arith
 above_within (Suspend s) calls = omega arith

@@ -1,14 +1,17 @@
 -- Stretches of steps up to where the evaluator goes on.
-use Rattle.std.proofs.Common.{◌≡◌, List, Option, None, Some}
+use Rattle.std.proofs.Common.{◌≡◌, ℕ, List, drop, Option, None, Some}
 use Rattle.std.specs.Prelude.{ℤ}
 use Rattle.twe_program.specs.Program.{Program}
+use Rattle.twe_program.specs.Statement.{Statement, statements_of}
+use Rattle.seg_exec.specs.declared.steps.machine.Machine.{Machine}
 use Rattle.seg_exec.specs.declared.steps.request.Ending.{Ending}
 use Rattle.seg_exec.specs.declared.steps.continuation.OpenBlock.{OpenBlock}
+use Rattle.seg_exec.specs.declared.strides.onward.Onward.{Onward}
 use Rattle.seg_exec.specs.Access.{Ways}
-use Rattle.seg_exec.specs.inner.steps.Continuations.{Config, Continuation, to_do}
-use Rattle.seg_exec.specs.inner.steps.Reached.{Finishes, Reaches, Standing}
+use Rattle.seg_exec.specs.inner.steps.Continuations.{Config, Continuation, Rest, to_do}
+use Rattle.seg_exec.specs.inner.steps.Reached.{Finishes, Reaches, Standing, standing}
 use Rattle.seg_exec.specs.inner.steps.Steps.{on, step_of, worked}
-use Rattle.seg_exec.specs.inner.strides.Moving.{Course, Moves, MovesTo, ahead, rest_of, step_on, step_to}
+use Rattle.seg_exec.specs.inner.strides.Moving.{Course, Moves, MovesTo, Passes, ahead, course, rest_of, step_on, step_to}
 use Rattle.seg_exec.specs.inner.strides.Strides.{Carries, Ends, Goes, Nears, doing}
 use Rattle.seg_exec.proofs.strides.Performing.{placed}
 use Rattle.seg_exec.proofs.strides.Strides.{ended, near_goes, silent, then_goes}
@@ -39,6 +42,12 @@ module _ {C : Type 0} (p : Program) (ways : Ways C) where
 
   pub near_moves : (a b c : Standing C) (next : Course) → Nears p ways a b → Moves p ways b next c → Moves p ways a next c
   near_moves a b c next first second = near_moves_to a b c next.block next.ending first second
+
+  -- the same, if the statements of a block may come next
+  pub then_passes : (a b : Standing C) (block at : ℕ) (stmts : List Statement) (machine : Machine) (cells : C) (prints : List ℤ) (passed : Option Onward) → Goes p ways a b
+      → Passes p ways b block at stmts machine cells prints passed → Passes p ways a block at stmts machine cells prints passed
+  then_passes a b block at stmts machine cells prints None first second = then_goes p ways a b (doing (Rest block at (statements_of (drop at stmts))) (standing machine cells prints)) first second
+  then_passes a b block at stmts machine cells prints (Some onward) first second = then_moves a b (standing machine cells prints) (course onward machine) first second
 
   -- the same after one step that asks for nothing
   pub moves_silent : (task : Continuation) (old mid : Config) (cells : C) (prints : List ℤ) (next : Course) (new : Standing C) → worked p task old ≡ on mid

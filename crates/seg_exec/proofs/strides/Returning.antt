@@ -4,7 +4,7 @@ use Rattle.twe_program.specs.Program.{Program}
 use Rattle.seg_exec.specs.declared.steps.request.Request.{Request}
 use Rattle.seg_exec.specs.declared.steps.request.Ending.{Ending}
 use Rattle.seg_exec.specs.Access.{Ways}
-use Rattle.seg_exec.specs.inner.steps.Continuations.{Config, Continuation, Unwind, to_do}
+use Rattle.seg_exec.specs.inner.steps.Continuations.{Config, Continuation, Unwind, to_do, top, with_operand, without_operand}
 use Rattle.seg_exec.specs.inner.steps.Reached.{MayRequest, Served, Standing}
 use Rattle.seg_exec.specs.inner.steps.Steps.{Step, Recovery, ToCaller, OfBlock, NoRecovery, recovered_from, returned, returned_past, unwound_past}
 use Rattle.seg_exec.specs.inner.strides.Strides.{Carries, doing}
@@ -14,6 +14,16 @@ use Rattle.seg_exec.proofs.strides.Performing.{carries_silent, carries_step, pla
 pub returned_same : (work other : List Continuation) (c : Config) → returned work (record c { work = other }) ≡ returned work c
 returned_same [] other c = refl
 returned_same (next ∷ work) other c = ap (λ (others : Step). returned_past (recovered_from next) (record c { work = work }) others) (returned_same work other c)
+
+-- it is the same with the latest value popped and pushed again
+top_past : (r : Recovery) (c : Config) (others others' : Step) → others ≡ others' → returned_past r (with_operand (top c.operands) (without_operand c)) others ≡ returned_past r c others'
+top_past (ToCaller vars) c others others' same = refl
+top_past (OfBlock position) c others others' same = same
+top_past NoRecovery c others others' same = same
+
+pub returned_top : (work : List Continuation) (c : Config) → returned work (with_operand (top c.operands) (without_operand c)) ≡ returned work c
+returned_top [] c = refl
+returned_top (next ∷ work) c = top_past (recovered_from next) (record c { work = work }) (returned work (with_operand (top c.operands) (without_operand c))) (returned work c) (returned_top work c)
 
 -- a frame is passed over
 pub passed_over : (next : Continuation) (work : List Continuation) (c : Config) (r : Recovery) → recovered_from next ≡ r

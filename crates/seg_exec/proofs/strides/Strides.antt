@@ -57,6 +57,16 @@ module _ {C : Type 0} (p : Program) (ways : Ways C) where
         omega (arith, first.less same, second.less again);
   }
 
+  pub nears_on : (a b c : Standing C) → Nears p ways a b → Nears p ways b c → Nears p ways a c
+  nears_on a b c first second = record {
+    on = λ start r. second.on start (first.on start r);
+    fuel = omega (arith, first.fuel, second.fuel);
+    less = λ e.
+        let same : b.config.fuel ≡ a.config.fuel = omega (arith, first.fuel, second.fuel, e) in
+        let again : c.config.fuel ≡ b.config.fuel = omega (arith, same, e) in
+        omega (arith, first.less same, second.less again);
+  }
+
   pub near_goes : (a b c : Standing C) → Nears p ways a b → Goes p ways b c → Goes p ways a c
   near_goes a b c first second = record {
     on = λ start r. second.on start (first.on start r);

@@ -2,8 +2,10 @@
 ghost use Rattle.std.specs.Prelude.{◌≡◌, ℤ, List};
 ghost use Rattle.seg_exec.specs.declared.active.ActiveCall.{ActiveCall};
 ghost use Rattle.seg_exec.specs.inner.steps.Calls.{calls_above, calls_with};
+ghost use Rattle.seg_exec.specs.inner.steps.Continuations as continuations;
 ghost use Rattle.seg_exec.specs.inner.steps.Steps.{recovered_from};
 ghost use Rattle.seg_exec.specs.inner.steps.Views.{callers_below, callers_past, calls_past, continuation_of, recovery_of};
+ghost use Rattle.seg_exec.specs.inner.steps.Views.{returning_below, returning_past};
 
 use crate::active::ActiveCall;
 use crate::frame::Position;
@@ -167,6 +169,22 @@ pub(crate) enum Continuation<'a> {
     },
     /// Use the latest value.
     UseValue(ValueUse<'a>),
+    /// Evaluate the right operand, unless the value of the left one decides, and return the value of the operator from the body.
+    RightThenReturn {
+        /// The operator.
+        op: BinOp,
+        /// The right operand.
+        right: &'a Expr,
+        /// The place of the operator.
+        place: Place,
+    },
+    /// Apply an operator to two values, and return its value from the body.
+    ApplyThenReturn {
+        /// The operator.
+        op: BinOp,
+        /// Its place.
+        place: Place,
+    },
     /// Evaluate the arguments that have no value yet.
     Gather(Box<Gathering<'a>>),
     /// Use the value of an argument, then evaluate those after it.
@@ -205,6 +223,8 @@ pub(crate) enum Recovered {
     },
     /// The position of an open block.
     Block(Position),
+    /// A return from the body, which was to come next.
+    Return,
     /// Nothing.
     Nothing,
 }
@@ -222,6 +242,8 @@ impl Continuation<'_> {
             Continuation::Rest { .. } => None,
             Continuation::Choose { .. } => None,
             Continuation::UseValue(_) => None,
+            Continuation::RightThenReturn { .. } => None,
+            Continuation::ApplyThenReturn { .. } => None,
             Continuation::Gather(_) => None,
             Continuation::Take(_) => None,
             Continuation::Suspend(_) => None,
@@ -232,6 +254,8 @@ impl Continuation<'_> {
     #[inline(always)]
     pub(crate) fn recovered(self) -> Recovered
         ensures recovery { (callers : List ℤ) → recovery_of callers result ≡ recovered_from (continuation_of callers self.entry) }
+        ensures returning { (others : List continuations.Continuation)
+            → returning_past result others ≡ returning_below self.entry others }
         ensures callers { (callers : List ℤ) → callers_past result callers ≡ callers_below self.entry callers }
         ensures calls { (calls : List ActiveCall) → calls_past result calls ≡ calls_above self.entry calls }
     {
@@ -242,6 +266,8 @@ impl Continuation<'_> {
             Continuation::Execute(_) => Recovered::Nothing,
             Continuation::Choose { .. } => Recovered::Nothing,
             Continuation::UseValue(_) => Recovered::Nothing,
+            Continuation::RightThenReturn { .. } => Recovered::Return,
+            Continuation::ApplyThenReturn { .. } => Recovered::Return,
             Continuation::Gather(_) => Recovered::Nothing,
             Continuation::Take(_) => Recovered::Nothing,
             Continuation::Suspend(_) => Recovered::Nothing,

@@ -5,7 +5,7 @@ ghost use Rattle.twe_program.specs.Statement.{statements_of};
 ghost use Rattle.twe_program.specs.inner.StatementView.{arms_of};
 ghost use Rattle.seg_exec.specs.declared.steps.continuation.Continuation.TheVariants.{Leave};
 ghost use Rattle.seg_exec.specs.inner.steps.Bodies.{last_of};
-ghost use Rattle.seg_exec.specs.inner.steps.Continuations.{Suspend, Unwind, to_do, top, without_operand};
+ghost use Rattle.seg_exec.specs.inner.steps.Continuations.{Suspend, Unwind, to_do, top, with_operand, without_operand};
 ghost use Rattle.seg_exec.specs.inner.steps.Steps.{back_with, chosen_next, choosing, is_return, on, rested, returned, suspended, turned_next, unwound, with_rest};
 ghost use Rattle.seg_exec.specs.inner.steps.Views.{config_of, config_under};
 
@@ -198,11 +198,19 @@ impl<'a> Machine<'a> {
         Ok(Request::Nothing)
     }
 
+    /// Schedules the return of the latest value from the body.
+    #[inline(always)]
+    fn push_return(&mut self) -> Result<(), Memory>
+        ensures { IfOk result (λ _. config_of self.new ≡ to_do Unwind (config_of self.old)) }
+    {
+        self.push(Continuation::UseValue(ValueUse::Unwind))
+    }
+
     /// Schedules the rest of a return.
     fn unwind_on(&mut self) -> Result<Request, Memory>
         ensures { IfOk result (λ request. (request, config_of self.new) ≡ on (to_do Unwind (config_of self.old))) }
     {
-        self.push(Continuation::UseValue(ValueUse::Unwind))?;
+        self.push_return()?;
         Ok(Request::Nothing)
     }
 
@@ -226,23 +234,31 @@ impl<'a> Machine<'a> {
         match work.recovered() {
             Recovered::Caller { count, .. } => self.hand_back(count),
             Recovered::Block(_) => self.unwind_on(),
+            Recovered::Return => {
+                self.push_return()?;
+                self.unwind_on()
+            }
             Recovered::Nothing => self.unwind_on(),
         }
     }
 
-    /// Returns the latest value to the caller of the active method, or from the whole body, at once.
+    /// Returns a value to the caller of the active method, or from the whole body, at once.
     #[inline(always)]
-    pub(crate) fn give_back(&mut self) -> Result<Request, Memory>
+    pub(crate) fn give_back(&mut self, value: i32) -> Result<Request, Memory>
         ensures { IfOk result (λ request. (request, config_of self.new) ≡
-            returned (config_of self.old).work (config_of self.old)) }
+            returned (config_of self.old).work (with_operand value (config_of self.old))) }
     {
         'frames: loop {
             let Some(work) = self.work.pop() else {
-                return Ok(Request::End(Ending::Returned(self.pop_operand())));
+                return Ok(Request::End(Ending::Returned(value)));
             };
             match work.recovered() {
-                Recovered::Caller { count, .. } => return self.hand_back(count),
+                Recovered::Caller { count, .. } => {
+                    self.back(value, count)?;
+                    return Ok(Request::Nothing);
+                }
                 Recovered::Block(_) => {}
+                Recovered::Return => {}
                 Recovered::Nothing => {}
             }
         }
@@ -261,6 +277,10 @@ impl<'a> Machine<'a> {
             Recovered::Block(position) => {
                 let mut suspension = suspension;
                 suspension.close(position)?;
+                self.suspend_below(suspension)
+            }
+            Recovered::Return => {
+                self.push_return()?;
                 self.suspend_below(suspension)
             }
             Recovered::Nothing => self.suspend_below(suspension),

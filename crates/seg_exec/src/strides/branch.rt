@@ -5,7 +5,7 @@ ghost use Rattle.twe_program.specs.inner.StatementView.{arms_of};
 ghost use Rattle.seg_exec.specs.Access.{ways_of};
 ghost use Rattle.seg_exec.specs.inner.steps.Continuations.{Choose, Rest};
 ghost use Rattle.seg_exec.specs.inner.steps.Reached.{standing};
-ghost use Rattle.seg_exec.specs.inner.strides.Moving.{Moves, course};
+ghost use Rattle.seg_exec.specs.inner.strides.Moving.{Passes};
 ghost use Rattle.seg_exec.specs.inner.strides.Strides.{MayGo, doing};
 
 use crate::cells::Cells;
@@ -22,7 +22,8 @@ use twe_program::{Arm, Arms, Block, Prog, Stmt};
 
 /// Evaluates the conditions of arms of an `if`, as far as they call no method. Its branch comes next, and then the statements of
 /// the block around it, from the one at `at` on. A branch that begins with a `return` is left at once, if the value calls no
-/// method. If a condition calls a method, it makes only the first step of that condition.
+/// method. If a condition calls a method, it makes only the first step of that condition. Returns what comes next, or `None` if
+/// no branch is picked, so that these statements come next.
 #[inline(always)]
 fn branch_among<'a, C: Cells>(
     alloc: Global,
@@ -35,27 +36,27 @@ fn branch_among<'a, C: Cells>(
     block: usize,
     at: usize,
     stmts: &'a [Stmt],
-) -> Result<Onward, Memory>
+) -> Result<Option<Onward>, Memory>
     requires { MayGo p.now (ways_of C.known C.may_read C.may_write C.rule) (doing (Choose 0 (arms_of arms.now last.now))
         (doing (Rest block at (statements_of (drop at stmts.now))) (standing machine.old cells.old prints.old))) }
-    ensures { IfOk result (λ onward. Moves p.now (ways_of C.known C.may_read C.may_write C.rule)
+    ensures { IfOk result (Passes p.now (ways_of C.known C.may_read C.may_write C.rule)
         (doing (Choose 0 (arms_of arms.now last.now))
         (doing (Rest block at (statements_of (drop at stmts.now))) (standing machine.old cells.old prints.old)))
-        (course onward machine.new) (standing machine.new cells.new prints.new)) }
+        block at stmts.now machine.new cells.new prints.new) }
 {
     match pick(arms, last, p, machine.vars.as_slice(), cells) {
         Picked::Faulted(fault) => {
             machine.ending = Some(fault.ending());
-            Ok(Onward::End)
+            Ok(Some(Onward::End))
         }
-        Picked::Nothing => {
-            machine.open = OpenBlock { block, at, stmts };
-            Ok(Onward::Enter)
-        }
+        Picked::Nothing => Ok(None),
         Picked::Body { number, body } => {
             let inner = body.stmts.as_slice();
             match plain_return(inner) {
-                Some(value) => give(p, machine, cells, prints, value, block, at, stmts),
+                Some(value) => {
+                    let onward = give(p, machine, cells, prints, value, block, at, stmts)?;
+                    Ok(Some(onward))
+                }
                 None => {
                     machine.push(Continuation::Rest { block, at, stmts })?;
                     machine.open = OpenBlock {
@@ -63,19 +64,21 @@ fn branch_among<'a, C: Cells>(
                         at: 0,
                         stmts: inner,
                     };
-                    Ok(Onward::Enter)
+                    Ok(Some(Onward::Enter))
                 }
             }
         }
         Picked::Left(next) => {
             machine.push(Continuation::Rest { block, at, stmts })?;
-            choose(alloc, p, machine, cells, prints, next, arms, last)
+            let onward = choose(alloc, p, machine, cells, prints, next, arms, last)?;
+            Ok(Some(onward))
         }
     }
 }
 
 /// Evaluates the conditions of the arms of an `if`. Its branch comes next, and then the statements of the block around it, from
-/// the one at `at` on. If a condition calls a method, it makes only the first step of that condition.
+/// the one at `at` on. If a condition calls a method, it makes only the first step of that condition. Returns what comes next, or
+/// `None` if no branch is picked, so that these statements come next.
 #[inline(always)]
 pub(crate) fn branch<'a, C: Cells>(
     alloc: Global,
@@ -87,13 +90,13 @@ pub(crate) fn branch<'a, C: Cells>(
     block: usize,
     at: usize,
     stmts: &'a [Stmt],
-) -> Result<Onward, Memory>
+) -> Result<Option<Onward>, Memory>
     requires { MayGo p.now (ways_of C.known C.may_read C.may_write C.rule) (doing (Choose 0 arms.now)
         (doing (Rest block at (statements_of (drop at stmts.now))) (standing machine.old cells.old prints.old))) }
-    ensures { IfOk result (λ onward. Moves p.now (ways_of C.known C.may_read C.may_write C.rule)
+    ensures { IfOk result (Passes p.now (ways_of C.known C.may_read C.may_write C.rule)
         (doing (Choose 0 arms.now)
         (doing (Rest block at (statements_of (drop at stmts.now))) (standing machine.old cells.old prints.old)))
-        (course onward machine.new) (standing machine.new cells.new prints.new)) }
+        block at stmts.now machine.new cells.new prints.new) }
 {
     let (first, last) = (arms.arms.as_slice(), &arms.last);
     branch_among(

@@ -23,7 +23,7 @@ use twe_program::{BinOp, Expr, ExprKind, Prog};
 
 /// Begins to evaluate an expression: the arguments if it is a call, and else its first step.
 #[inline(always)]
-fn begin_one<'a, C: Cells>(
+pub(crate) fn begin_one<'a, C: Cells>(
     alloc: Global,
     p: &'a Prog,
     machine: &mut Machine<'a>,
@@ -76,7 +76,7 @@ fn evaluate_at_once<'a, C: Cells>(
 
 /// Evaluates an operand at once if it calls no method, and makes its first step otherwise.
 #[inline(always)]
-fn operand<'a, C: Cells>(
+pub(crate) fn operand<'a, C: Cells>(
     alloc: Global,
     p: &'a Prog,
     machine: &mut Machine<'a>,
@@ -97,7 +97,7 @@ fn operand<'a, C: Cells>(
 /// Begins to evaluate an expression, and the left operand if it is an operator. It stands apart, so that what is inlined
 /// for an expression that calls no method stays small.
 #[inline(never)]
-fn begin<'a, C: Cells>(
+pub(crate) fn begin<'a, C: Cells>(
     alloc: Global,
     p: &'a Prog,
     machine: &mut Machine<'a>,
@@ -146,6 +146,35 @@ pub(crate) fn evaluate<'a, C: Cells>(
     begin(alloc, p, machine, cells, prints, expr)
 }
 
+/// Evaluates an expression that calls no method and uses its value for `then`.
+#[inline(always)]
+fn use_at_once<'a, C: Cells>(
+    p: &'a Prog,
+    machine: &mut Machine<'a>,
+    cells: &mut C,
+    prints: &mut Ints,
+    expr: &'a Expr,
+    then: &ValueUse<'a>,
+) -> Result<Onward, Memory>
+    requires plain { is_plain expr.now ≡ true }
+    requires may { MayGo p.now (ways_of C.known C.may_read C.may_write C.rule)
+        (doing (Evaluate expr.now) (doing (use_of then.now) (standing machine.old cells.old prints.old))) }
+    ensures { IfOk result (λ onward. Moves p.now (ways_of C.known C.may_read C.may_write C.rule)
+        (doing (Evaluate expr.now) (doing (use_of then.now) (standing machine.old cells.old prints.old)))
+        (course onward machine.new) (standing machine.new cells.new prints.new)) }
+{
+    match value_of(expr, p, machine.vars.as_slice(), cells) {
+        Err(fault) => {
+            machine.ending = Some(fault.ending());
+            Ok(Onward::End)
+        }
+        Ok(value) => {
+            machine.push_operand(value)?;
+            use_value(p, machine, cells, prints, then)
+        }
+    }
+}
+
 /// Evaluates an expression and uses its value for `then`. If the expression calls a method, it makes only the first step.
 #[inline(always)]
 pub(crate) fn evaluate_then<'a, C: Cells>(
@@ -163,20 +192,11 @@ pub(crate) fn evaluate_then<'a, C: Cells>(
         (doing (Evaluate expr.now) (doing (use_of then.now) (standing machine.old cells.old prints.old)))
         (course onward machine.new) (standing machine.new cells.new prints.new)) }
 {
-    if !is_plain(expr) {
-        machine.push(Continuation::UseValue(*then))?;
-        return begin(alloc, p, machine, cells, prints, expr);
+    if is_plain(expr) {
+        return use_at_once(p, machine, cells, prints, expr, then);
     }
-    match value_of(expr, p, machine.vars.as_slice(), cells) {
-        Err(fault) => {
-            machine.ending = Some(fault.ending());
-            Ok(Onward::End)
-        }
-        Ok(value) => {
-            machine.push_operand(value)?;
-            use_value(p, machine, cells, prints, then)
-        }
-    }
+    machine.push(Continuation::UseValue(*then))?;
+    begin(alloc, p, machine, cells, prints, expr)
 }
 
 /// Evaluates the right operand of an operator and applies the operator, unless the left operand decides. If the right operand

@@ -11,7 +11,7 @@ ghost use Rattle.seg_exec.specs.inner.strides.Strides.{MayGo, doing};
 use crate::cells::Cells;
 use crate::steps::machine::Machine;
 use crate::strides::onward::Onward;
-use crate::strides::serve::leave;
+use crate::strides::serve::leave_with;
 use crate::strides::value::value_of;
 use twe_base::{Ints, Memory};
 use twe_program::{Expr, Prog, Stmt};
@@ -44,9 +44,6 @@ pub(crate) fn give<'a, C: Cells>(
             machine.ending = Some(fault.ending());
             Ok(Onward::End)
         }
-        Ok(value) => {
-            machine.push_operand(value)?;
-            leave(p, machine, cells, prints)
-        }
+        Ok(value) => leave_with(p, machine, cells, prints, value),
     }
 }

@@ -1,9 +1,9 @@
 //! What a continuation frame is for, done in one step or in several.
-ghost use Rattle.std.specs.Prelude.{◌<◌, IfOk, drop, length};
+ghost use Rattle.std.specs.Prelude.{◌+◌, ◌<◌, IfOk, drop, length};
 ghost use Rattle.twe_program.specs.Statement.{statements_of};
 ghost use Rattle.seg_exec.specs.inner.steps.Continuations.{Execute, Rest};
-ghost use Rattle.seg_exec.specs.inner.strides.Moving.{Moves, MovesOn, course};
-ghost use Rattle.seg_exec.specs.inner.strides.Strides.{MayGo, MayStride};
+ghost use Rattle.seg_exec.specs.inner.strides.Moving.{Moves, MovesOn, Passes, course};
+ghost use Rattle.seg_exec.specs.inner.strides.Strides.{MayGo, MayStride, doing};
 ghost use Rattle.seg_exec.specs.inner.steps.Reached.{standing, standing_with};
 ghost use Rattle.seg_exec.specs.Access.{ways_of};
 
@@ -16,6 +16,7 @@ use crate::strides::choose::{choose, choose_first};
 use crate::strides::evaluate::{evaluate, evaluate_then, right_of};
 use crate::strides::gather::{gather_more, take};
 use crate::strides::onward::Onward;
+use crate::strides::return_value::{apply_then_return, return_value, right_then_return};
 use crate::strides::serve::{serve, use_value};
 use crate::strides::turn::turn;
 use std::alloc::Global;
@@ -62,9 +63,7 @@ fn execute<'a, C: Cells>(
             evaluate_then(alloc, p, machine, cells, prints, condition, &then)
         }
         StmtKind::If(arms) => choose_first(alloc, p, machine, cells, prints, arms),
-        StmtKind::Return(Some(value)) => {
-            evaluate_then(alloc, p, machine, cells, prints, value, &ValueUse::Unwind)
-        }
+        StmtKind::Return(Some(value)) => { return_value(alloc, p, machine, cells, prints, value) }
         StmtKind::Print { value, place } => {
             let then = ValueUse::PrintValue(*place);
             evaluate_then(alloc, p, machine, cells, prints, value, &then)
@@ -126,6 +125,7 @@ fn begin_statement<'a, C: Cells>(
 }
 
 /// Executes the next statement of a block: the branch of an `if` comes next, and below a `return` nothing of the block is kept.
+/// Returns what comes next, or `None` if it is an `if` of which no branch is picked, so that the statement after it comes next.
 #[inline(always)]
 fn enter_statement<'a, C: Cells>(
     alloc: Global,
@@ -136,12 +136,13 @@ fn enter_statement<'a, C: Cells>(
     block: usize,
     at: usize,
     stmts: &'a [Stmt],
-) -> Result<Onward, Memory>
+) -> Result<Option<Onward>, Memory>
     requires within { at < length stmts.now }
     requires may { MayStride p.now C.known C.may_read C.may_write C.rule (Rest block at (statements_of (drop at stmts.now)))
         machine.old cells.old prints.old }
-    ensures { IfOk result (MovesOn p.now C.known C.may_read C.may_write C.rule (Rest block at (statements_of (drop at stmts.now)))
-        machine.old cells.old prints.old machine.new cells.new prints.new) }
+    ensures { IfOk result (Passes p.now (ways_of C.known C.may_read C.may_write C.rule)
+        (doing (Rest block at (statements_of (drop at stmts.now))) (standing machine.old cells.old prints.old))
+        block (at + 1) stmts.now machine.new cells.new prints.new) }
 {
     let stmt = &stmts[at];
     match &stmt.kind {
@@ -149,13 +150,18 @@ fn enter_statement<'a, C: Cells>(
             branch(alloc, p, machine, cells, prints, arms, block, at + 1, stmts)
         }
         StmtKind::Return(Some(value)) => {
-            evaluate_then(alloc, p, machine, cells, prints, value, &ValueUse::Unwind)
+            let onward = return_value(alloc, p, machine, cells, prints, value)?;
+            Ok(Some(onward))
         }
-        _ => begin_statement(alloc, p, block, at, stmts, machine, cells, prints),
+        _ => {
+            let onward = begin_statement(alloc, p, block, at, stmts, machine, cells, prints)?;
+            Ok(Some(onward))
+        }
     }
 }
 
-/// Executes the statements of a block from the one at `at` on: assignments at once, up to the first other statement.
+/// Executes the statements of a block from the one at `at` on: assignments at once, and past each `if` of which no branch is
+/// picked, up to the first other statement.
 #[inline(always)]
 pub(crate) fn go_on<'a, C: Cells>(
     alloc: Global,
@@ -172,14 +178,21 @@ pub(crate) fn go_on<'a, C: Cells>(
     ensures { IfOk result (MovesOn p.now C.known C.may_read C.may_write C.rule (Rest block at (statements_of (drop at stmts.now)))
         machine.old cells.old prints.old machine.new cells.new prints.new) }
 {
-    match carry_out(stmts, at, p, &mut machine.vars, cells) {
-        CarriedOut::Done => Ok(Onward::Below),
-        CarriedOut::Faulted(fault) => {
-            machine.ending = Some(fault.ending());
-            Ok(Onward::End)
-        }
-        CarriedOut::Left(next) => {
-            enter_statement(alloc, p, machine, cells, prints, block, next, stmts)
+    let mut next = at;
+    'statements: loop {
+        match carry_out(stmts, next, p, &mut machine.vars, cells) {
+            CarriedOut::Done => return Ok(Onward::Below),
+            CarriedOut::Faulted(fault) => {
+                machine.ending = Some(fault.ending());
+                return Ok(Onward::End);
+            }
+            CarriedOut::Left(left) => {
+                let passed = enter_statement(alloc, p, machine, cells, prints, block, left, stmts)?;
+                if let Some(onward) = passed {
+                    return Ok(onward);
+                }
+                next = left + 1;
+            }
         }
     }
 }
@@ -210,6 +223,12 @@ pub(crate) fn perform<'a, C: Cells>(
         }
         Continuation::UseValue(ValueUse::Right { op, right, place }) => {
             right_of(alloc, p, machine, cells, prints, op, right, place)
+        }
+        Continuation::RightThenReturn { op, right, place } => {
+            right_then_return(alloc, p, machine, cells, prints, op, right, place)
+        }
+        Continuation::ApplyThenReturn { op, place } => {
+            apply_then_return(p, machine, cells, prints, op, place)
         }
         Continuation::UseValue(then) => use_value(p, machine, cells, prints, &then),
         Continuation::Gather(gathering) => {

@@ -3,8 +3,8 @@ ghost use Rattle.std.specs.Prelude.{IfOk};
 ghost use Rattle.seg_exec.specs.inner.steps.Continuations.{Unwind};
 ghost use Rattle.seg_exec.specs.inner.steps.Reached.{MayRequest, standing};
 ghost use Rattle.seg_exec.specs.inner.steps.Views.{use_of};
-ghost use Rattle.seg_exec.specs.inner.strides.Moving.{MovesOn, Serves, course};
-ghost use Rattle.seg_exec.specs.inner.strides.Strides.{MayStride};
+ghost use Rattle.seg_exec.specs.inner.strides.Moving.{Moves, MovesOn, Serves, course};
+ghost use Rattle.seg_exec.specs.inner.strides.Strides.{MayGo, MayStride, doing, holding};
 ghost use Rattle.seg_exec.specs.Access.{ways_of};
 
 use crate::cells::Cells;
@@ -44,9 +44,29 @@ pub(crate) fn serve<C: Cells>(
     Ok(Onward::Below)
 }
 
+/// Returns a value from the active body.
+#[inline(always)]
+pub(crate) fn leave_with<'a, C: Cells>(
+    p: &'a Prog,
+    machine: &mut Machine<'a>,
+    cells: &mut C,
+    prints: &mut Ints,
+    value: i32,
+) -> Result<Onward, Memory>
+    requires { MayGo p.now (ways_of C.known C.may_read C.may_write C.rule)
+        (doing Unwind (holding value (standing machine.old cells.old prints.old))) }
+    ensures { IfOk result (λ onward. Moves p.now (ways_of C.known C.may_read C.may_write C.rule)
+        (doing Unwind (holding value (standing machine.old cells.old prints.old)))
+        (course onward machine.new) (standing machine.new cells.new prints.new)) }
+{
+    let _program = p;
+    let request = machine.give_back(value)?;
+    serve(machine, cells, prints, request)
+}
+
 /// Returns the latest value from the active body.
 #[inline(always)]
-pub(crate) fn leave<'a, C: Cells>(
+fn leave<'a, C: Cells>(
     p: &'a Prog,
     machine: &mut Machine<'a>,
     cells: &mut C,
@@ -57,7 +77,8 @@ pub(crate) fn leave<'a, C: Cells>(
         machine.new cells.new prints.new) }
 {
     let _program = p;
-    let request = machine.give_back()?;
+    let value = machine.pop_operand();
+    let request = machine.give_back(value)?;
     serve(machine, cells, prints, request)
 }
 

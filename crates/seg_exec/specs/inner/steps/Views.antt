@@ -34,17 +34,25 @@ use_of (uses.PrintValue place) = PrintValue place
 use_of uses.Discard = Discard
 use_of uses.Unwind = Unwind
 
--- the continuation frame that a frame of the evaluator stands for, over the variables of the callers
+-- the first continuation frame that a frame of the evaluator stands for, over the variables of the callers
 abbrev pub continuation_of : List ℤ → Held → Continuation
 continuation_of callers (held.Evaluate e) = Evaluate e.now
 continuation_of callers (held.Execute s) = Execute s.now
 continuation_of callers (held.Rest block at stmts) = Rest block at (statements_of (drop at stmts.now))
 continuation_of callers (held.Choose block arms last) = Choose block (arms_of (drop block arms.now) last.now)
 continuation_of callers (held.UseValue then) = use_of then
+continuation_of callers (held.RightThenReturn op right place) = Right op right.now place
+continuation_of callers (held.ApplyThenReturn op place) = Apply op place
 continuation_of callers (held.Gather g) = Gather g.value.taken (arguments_of g.value.args.now) g.value.goal
 continuation_of callers (held.Take g) = Take g.value.taken (arguments_of g.value.args.now) g.value.goal
 continuation_of callers (held.Suspend s) = Suspend s.operation s.positions
 continuation_of callers (held.Leave count call) = Leave (last_of count callers)
+
+-- these frames with what else a frame of the evaluator stands for, below its first frame: the return of the value from the body
+abbrev pub returning_below : Held → List Continuation → List Continuation
+returning_below (held.RightThenReturn op right place) others = Unwind ∷ others
+returning_below (held.ApplyThenReturn op place) others = Unwind ∷ others
+returning_below _ others = others
 
 -- the variables of the callers that the frames below a frame return to
 abbrev pub callers_below : Held → List ℤ → List ℤ
@@ -54,7 +62,8 @@ callers_below _ callers = callers
 -- all frames
 abbrev pub continuations_of : List ℤ → List Held → List Continuation
 continuations_of callers [] = []
-continuations_of callers (work ∷ others) = continuation_of callers work ∷ continuations_of (callers_below work callers) others
+continuations_of callers (work ∷ others) =
+    continuation_of callers work ∷ returning_below work (continuations_of (callers_below work callers) others)
 
 -- the state of a machine as a configuration
 abbrev pub config_of : Machine → Config
@@ -66,10 +75,10 @@ config_of m = record {
   calls = calls_of m.work;
 }
 
--- the same below a frame that was on top
+-- the same below the first continuation frame of a frame that was on top
 abbrev pub config_under : Held → Machine → Config
 config_under work m = record (config_of m) {
-  work = continuations_of (callers_below work m.vars.callers) m.work;
+  work = returning_below work (continuations_of (callers_below work m.vars.callers) m.work);
   calls = calls_above work (calls_of m.work);
 }
 
@@ -85,16 +94,26 @@ config_before count m = record (config_of m) { vars = take count m.vars.active }
 abbrev pub callers_past : Recovered → List ℤ → List ℤ
 callers_past (recovers.Caller count call) callers = before_last count callers
 callers_past (recovers.Block position) callers = callers
+callers_past recovers.Return callers = callers
 callers_past recovers.Nothing callers = callers
+
+-- these frames with what was below the first one of a frame from which this is recovered
+abbrev pub returning_past : Recovered → List Continuation → List Continuation
+returning_past (recovers.Caller count call) others = others
+returning_past (recovers.Block position) others = others
+returning_past recovers.Return others = Unwind ∷ others
+returning_past recovers.Nothing others = others
 
 -- the calls that were active with a frame from which this is recovered, over those of the frames below it
 abbrev pub calls_past : Recovered → List ActiveCall → List ActiveCall
 calls_past (recovers.Caller count call) calls = call ∷ calls
 calls_past (recovers.Block position) calls = calls
+calls_past recovers.Return calls = calls
 calls_past recovers.Nothing calls = calls
 
 -- what unwinding recovers from a frame, over the variables of the callers
 abbrev pub recovery_of : List ℤ → Recovered → Recovery
 recovery_of callers (recovers.Caller count call) = ToCaller (last_of count callers)
 recovery_of callers (recovers.Block position) = OfBlock position
+recovery_of callers recovers.Return = NoRecovery
 recovery_of callers recovers.Nothing = NoRecovery

@@ -1,5 +1,5 @@
 -- Assignments of a block that are carried out at once, whatever else is to be done.
-use Rattle.std.specs.Prelude.{◌<◌, ℕ, ℤ, List, ◌∷◌, drop, length}
+use Rattle.std.specs.Prelude.{◌<◌, ◌≤◌, ℕ, ℤ, List, ◌∷◌, drop, length}
 use Rattle.twe_program.specs.Program.{Program}
 use Rattle.twe_program.specs.Statement.{Statement, statements_of}
 use Rattle.seg_exec.specs.declared.active.ActiveCall.{ActiveCall}
@@ -38,4 +38,4 @@ CarriesOut p ways at stmts vars old (Faulted fault) vars' new =
     → Ends p ways (stand (resting block at stmts work) operands vars fuel calls old prints) (fault_ending fault)
     (stand work operands vars' fuel calls new prints)
 CarriesOut p ways at stmts vars old (Left next) vars' new =
-    (next < length stmts) × ComesBefore p ways at stmts vars old next vars' new
+    (next < length stmts) × ComesBefore p ways at stmts vars old next vars' new × (at ≤ next)

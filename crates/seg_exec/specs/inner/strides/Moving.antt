@@ -2,7 +2,7 @@
 use Rattle.std.specs.Prelude.{◌≡◌, ℕ, ℤ, List, drop, Option, None, Some}
 use Rattle.twe_program.specs.Program.{Program}
 use Rattle.twe_program.specs.Expression.{Arguments}
-use Rattle.twe_program.specs.Statement.{statements_of}
+use Rattle.twe_program.specs.Statement.{Statement, statements_of}
 use Rattle.seg_exec.specs.declared.steps.machine.Machine.{Machine}
 use Rattle.seg_exec.specs.declared.steps.request.Ending.{Ending}
 use Rattle.seg_exec.specs.declared.steps.request.Request.{Request}
@@ -77,3 +77,11 @@ Serves ways request old next new = Served ways request old next.ending new × (n
 abbrev pub gathering_from : {C : Type 0} → ℕ → Arguments → Goal → Machine → C → List ℤ → Standing C
 gathering_from count args goal machine cells prints =
     doing (Gather (drop count machine.vars.active) args goal) (standing_before count machine cells prints)
+
+-- the statements of a block come next, from the one at this index on, or else the run goes on as said or has ended
+abbrev pub Passes : {C : Type 0} → Program → Ways C → Standing C → ℕ → ℕ → List Statement
+    → Machine → C → List ℤ → Option Onward → Type 0
+Passes p ways old block at stmts machine cells prints None =
+    Goes p ways old (doing (Rest block at (statements_of (drop at stmts))) (standing machine cells prints))
+Passes p ways old block at stmts machine cells prints (Some onward) =
+    Moves p ways old (course onward machine) (standing machine cells prints)

@@ -11,7 +11,7 @@ use Rattle.seg_exec.specs.declared.steps.request.Ending.{Ending}
 use Rattle.seg_exec.specs.declared.steps.request.Ending.TheVariants.{Faulted}
 use Rattle.seg_exec.specs.declared.strides.value.Fault.{Fault}
 use Rattle.seg_exec.specs.Access.{Access, HasRead, Ways, ways_of}
-use Rattle.seg_exec.specs.inner.steps.Continuations.{Continuation, Evaluate, to_do}
+use Rattle.seg_exec.specs.inner.steps.Continuations.{Continuation, Evaluate, to_do, with_operand}
 use Rattle.seg_exec.specs.inner.steps.Reached.{Finishes, MayGoOn, Reaches, Standing, standing}
 use Rattle.seg_exec.specs.inner.steps.Sizes.{size_of_work}
 
@@ -45,6 +45,10 @@ pub record MayGo {C : Type 0} (p : Program) (ways : Ways C) (now : Standing C) :
 -- with one thing more to be done
 abbrev pub doing : {C : Type 0} → Continuation → Standing C → Standing C
 doing task s = record s { config = to_do task s.config }
+
+-- with one value more on the operand stack
+abbrev pub holding : {C : Type 0} → ℤ → Standing C → Standing C
+holding value s = record s { config = with_operand value s.config }
 
 -- a run that the implementation allows came to a machine, cells and printed numbers with this to be done
 abbrev pub MayStride : {C : Type 0} → Program

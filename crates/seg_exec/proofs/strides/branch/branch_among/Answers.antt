@@ -11,7 +11,6 @@ use Rattle.seg_exec.specs.inner.strides.Moving.{course}
 use Rattle.seg_exec.proofs.strides.Branching.{arms_left, before, body_picked, fault_picked, nothing_picked, picks_at, value_picked}
 use Rattle.seg_exec.proofs.strides.Moving.{near_moves, then_moves}
 use Rattle.seg_exec.proofs.strides.Strides.{may_near, may_then}
-use Rattle.seg_exec.proofs.Segments.{if_ok_map}
 use Rattle.seg_exec.proofs.strides.branch.branch_among.Goals as goal
 
 pub choose-requires : goal.choose-requires
@@ -51,17 +50,17 @@ returns-in_ok-push-in-None g c =
     (body_picked c.args.p.now ways c.args.arms.now c.args.last.now rest old c.args.cells.now c.pick.new.cells c.args.prints.now c.in-Body.number c.in-Body.body.now (config_of c.push.new.self) c.in_ok-push-in-None.ensures
     (picks_at c.args.p.now ways c.args.arms.now c.args.last.now rest c.as_slice.result.now old.vars c.args.cells.now c.pick.new.cells (Body c.in-Body.number c.in-Body.body) c.as_slice.ensures c.in-Body.ensures))
 
-pub returns-in_ok-push-in-Left : goal.returns-in_ok-push-in-Left
-returns-in_ok-push-in-Left g c =
+pub returns-in_ok-onward-in-Left : goal.returns-in_ok-onward-in-Left
+returns-in_ok-onward-in-Left g c =
     let ways = ways_of g.C.Cells.known g.C.Cells.may_read g.C.Cells.may_write g.C.Cells.rule in
     let old = config_of c.args.machine.now in
     let rest = Rest c.args.block c.args.at (statements_of (drop c.args.at c.args.stmts.now)) in
     let from = before c.args.p.now ways c.args.arms.now c.args.last.now rest old c.args.cells.now c.args.prints.now in
     let mid = doing (Choose c.in-Left.next (arms_of (drop c.in-Left.next c.args.arms.now) c.args.last.now)) (standing c.push-in-Left.new.self c.pick.new.cells c.args.prints.now) in
     let after = standing c.choose.new.machine c.choose.new.cells c.choose.new.prints in
-    if_ok_map c.choose.result (λ onward moves. near_moves c.args.p.now (ways_of g.C.Cells.known g.C.Cells.may_read g.C.Cells.may_write g.C.Cells.rule) from mid after (course onward c.choose.new.machine)
+    near_moves c.args.p.now (ways_of g.C.Cells.known g.C.Cells.may_read g.C.Cells.may_write g.C.Cells.rule) from mid after (course c.in_ok-onward-in-Left.onward c.choose.new.machine)
     (arms_left c.args.p.now ways c.args.arms.now c.args.last.now rest old c.args.cells.now c.pick.new.cells c.args.prints.now c.in-Left.next (config_of c.push-in-Left.new.self) c.in_ok-push-in-Left.ensures
-    (picks_at c.args.p.now ways c.args.arms.now c.args.last.now rest c.as_slice.result.now old.vars c.args.cells.now c.pick.new.cells (Left c.in-Left.next) c.as_slice.ensures c.in-Left.ensures)) moves) c.choose.ensures
+    (picks_at c.args.p.now ways c.args.arms.now c.args.last.now rest c.as_slice.result.now old.vars c.args.cells.now c.pick.new.cells (Left c.in-Left.next) c.as_slice.ensures c.in-Left.ensures)) c.in_ok-onward-in-Left.ensures
 
 pub give-requires-clause-plain : goal.give-requires-clause-plain
 give-requires-clause-plain g c = let returned = c.in-Some.ensures in returned.0
@@ -76,14 +75,14 @@ give-requires-clause-may g c =
     (value_picked c.args.p.now ways c.args.arms.now c.args.last.now rest old c.args.cells.now c.pick.new.cells c.args.prints.now c.in-Body.number c.in-Body.body.now (statements_of c.as_slice-inner.result.now) c.in-Some.value.now is c.in-Some.ensures
     (picks_at c.args.p.now ways c.args.arms.now c.args.last.now rest c.as_slice.result.now old.vars c.args.cells.now c.pick.new.cells (Body c.in-Body.number c.in-Body.body) c.as_slice.ensures c.in-Body.ensures))
 
-pub returns-in-Some : goal.returns-in-Some
-returns-in-Some g c =
+pub returns-in_ok-onward-in-Some : goal.returns-in_ok-onward-in-Some
+returns-in_ok-onward-in-Some g c =
     let ways = ways_of g.C.Cells.known g.C.Cells.may_read g.C.Cells.may_write g.C.Cells.rule in
     let old = config_of c.args.machine.now in
     let rest = Rest c.args.block c.args.at (statements_of (drop c.args.at c.args.stmts.now)) in
     let is : c.in-Body.body.now ≡ statements_of c.as_slice-inner.result.now = search rules in
     let from = before c.args.p.now ways c.args.arms.now c.args.last.now rest old c.args.cells.now c.args.prints.now in
     let after = standing c.give.new.machine c.give.new.cells c.give.new.prints in
-    if_ok_map c.give.result (λ onward moves. then_moves c.args.p.now ways from _ after (course onward c.give.new.machine)
+    then_moves c.args.p.now ways from _ after (course c.in_ok-onward-in-Some.onward c.give.new.machine)
     (value_picked c.args.p.now ways c.args.arms.now c.args.last.now rest old c.args.cells.now c.pick.new.cells c.args.prints.now c.in-Body.number c.in-Body.body.now (statements_of c.as_slice-inner.result.now) c.in-Some.value.now is c.in-Some.ensures
-    (picks_at c.args.p.now ways c.args.arms.now c.args.last.now rest c.as_slice.result.now old.vars c.args.cells.now c.pick.new.cells (Body c.in-Body.number c.in-Body.body) c.as_slice.ensures c.in-Body.ensures)) moves) c.give.ensures
+    (picks_at c.args.p.now ways c.args.arms.now c.args.last.now rest c.as_slice.result.now old.vars c.args.cells.now c.pick.new.cells (Body c.in-Body.number c.in-Body.body) c.as_slice.ensures c.in-Body.ensures)) c.in_ok-onward-in-Some.ensures

@@ -6,7 +6,7 @@ use Rattle.seg_exec.proofs.strides.GoingOn.{next_is}
 use Rattle.seg_exec.proofs.strides.carry.carry_out.Goals as goal
 
 pub loop-next-init : goal.loop-next-init
-loop-next-init g c = (none_done c.args.p.now (ways_of g.C.Cells.known g.C.Cells.may_read g.C.Cells.may_write g.C.Cells.rule) c.args.at c.args.stmts.now c.args.vars.now.active c.args.cells.now, refl)
+loop-next-init g c = (none_done c.args.p.now (ways_of g.C.Cells.known g.C.Cells.may_read g.C.Cells.may_write g.C.Cells.rule) c.args.at c.args.stmts.now c.args.vars.now.active c.args.cells.now, refl, omega arith)
 
 pub assign-requires : goal.assign-requires
 assign-requires g c =
@@ -20,6 +20,7 @@ loop-next-preserved g c =
     let is = next_is c.args.stmts.now c.loop-next.next c.index-stmts-next.result c.loop-next-test.true c.index-stmts-next.is in (
       next_done c.args.p.now ways c.args.at c.args.stmts.now c.args.vars.now.active c.args.cells.now c.loop-next.next c.loop-next.vars.active c.loop-next.cells c.loop-next.invariant.0 c.index-stmts-next.result is c.in-Done.ensures.stays c.assign.new.vars.active c.assign.new.cells c.in-Done.ensures.does,
       c.assign.ensures.callers ∙ c.loop-next.invariant.1,
+      omega (arith, c.loop-next.invariant.2),
     )
 
 pub returns-in-Faulted : goal.returns-in-Faulted
@@ -35,7 +36,7 @@ pub returns-in-Left : goal.returns-in-Left
 returns-in-Left g c =
     let ways = ways_of g.C.Cells.known g.C.Cells.may_read g.C.Cells.may_write g.C.Cells.rule in
     record {
-      does = (c.loop-next-test.true, next_left c.args.p.now ways c.args.at c.args.stmts.now c.args.vars.now.active c.args.cells.now c.loop-next.next c.loop-next.vars.active c.loop-next.cells c.loop-next.invariant.0 c.assign.new.vars.active c.assign.new.cells c.in-Left.ensures.does);
+      does = (c.loop-next-test.true, next_left c.args.p.now ways c.args.at c.args.stmts.now c.args.vars.now.active c.args.cells.now c.loop-next.next c.loop-next.vars.active c.loop-next.cells c.loop-next.invariant.0 c.assign.new.vars.active c.assign.new.cells c.in-Left.ensures.does, c.loop-next.invariant.2);
       callers = c.assign.ensures.callers ∙ c.loop-next.invariant.1;
     }
 

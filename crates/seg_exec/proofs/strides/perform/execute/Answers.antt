@@ -64,16 +64,16 @@ returns-in-If g c =
     (standing c.choose_first.new.machine c.choose_first.new.cells c.choose_first.new.prints)
     (ap (λ (s : Statement). executed s (config_of c.args.machine.now)) (sym c.stmt.view_is ∙ ap (λ kind. statement_of c.stmt.inside.point kind) c.in-If.is)) rest) c.choose_first.ensures
 
-pub evaluate_then-requires-in-Return-Some : goal.evaluate_then-requires-in-Return-Some
-evaluate_then-requires-in-Return-Some g c =
+pub return_value-requires : goal.return_value-requires
+return_value-requires g c =
     may_silent c.args.p.now (ways_of g.C.Cells.known g.C.Cells.may_read g.C.Cells.may_write g.C.Cells.rule) (Execute c.args.stmt.now) (config_of c.args.machine.now) (to_do (Evaluate c.in-Return-Some.value) (to_do Unwind (config_of c.args.machine.now))) c.args.cells.now c.args.prints.now
     (ap (λ (s : Statement). executed s (config_of c.args.machine.now)) (let shape : c.args.stmt.now ≡ Return c.stmt.inside.point (Some c.in-Return-Some.value) = search rules in shape)) c.requires
 
 pub returns-in-Return-Some : goal.returns-in-Return-Some
 returns-in-Return-Some g c =
-    if_ok_map c.evaluate_then-in-Return-Some.result (λ onward rest. moves_silent c.args.p.now (ways_of g.C.Cells.known g.C.Cells.may_read g.C.Cells.may_write g.C.Cells.rule) (Execute c.args.stmt.now) (config_of c.args.machine.now) (to_do (Evaluate c.in-Return-Some.value) (to_do Unwind (config_of c.args.machine.now))) c.args.cells.now c.args.prints.now (course onward c.evaluate_then-in-Return-Some.new.machine)
-    (standing c.evaluate_then-in-Return-Some.new.machine c.evaluate_then-in-Return-Some.new.cells c.evaluate_then-in-Return-Some.new.prints)
-    (ap (λ (s : Statement). executed s (config_of c.args.machine.now)) (let shape : c.args.stmt.now ≡ Return c.stmt.inside.point (Some c.in-Return-Some.value) = search rules in shape)) rest) c.evaluate_then-in-Return-Some.ensures
+    if_ok_map c.return_value.result (λ onward rest. moves_silent c.args.p.now (ways_of g.C.Cells.known g.C.Cells.may_read g.C.Cells.may_write g.C.Cells.rule) (Execute c.args.stmt.now) (config_of c.args.machine.now) (to_do (Evaluate c.in-Return-Some.value) (to_do Unwind (config_of c.args.machine.now))) c.args.cells.now c.args.prints.now (course onward c.return_value.new.machine)
+    (standing c.return_value.new.machine c.return_value.new.cells c.return_value.new.prints)
+    (ap (λ (s : Statement). executed s (config_of c.args.machine.now)) (let shape : c.args.stmt.now ≡ Return c.stmt.inside.point (Some c.in-Return-Some.value) = search rules in shape)) rest) c.return_value.ensures
 
 pub returns-in_ok-request-in_default : goal.returns-in_ok-request-in_default
 returns-in_ok-request-in_default g c =

@@ -1,24 +1,30 @@
+use Rattle.std.proofs.Common.{◌≡◌, ◌∙◌, rules}
 use Rattle.seg_exec.specs.Access.{ways_of}
 use Rattle.seg_exec.specs.inner.steps.Reached.{standing}
+use Rattle.seg_exec.specs.inner.steps.Steps.{returned}
 use Rattle.seg_exec.specs.inner.steps.Views.{config_of}
-use Rattle.seg_exec.specs.inner.steps.Continuations.{Unwind}
+use Rattle.seg_exec.specs.inner.steps.Continuations.{Unwind, top, with_operand, without_operand}
 use Rattle.seg_exec.specs.inner.strides.Strides.{doing}
 use Rattle.seg_exec.specs.inner.strides.Moving.{course}
 use Rattle.seg_exec.proofs.strides.Moving.{moves_carried}
-use Rattle.seg_exec.proofs.strides.Returning.{carries_return, may_return}
+use Rattle.seg_exec.proofs.strides.Returning.{carries_return, may_return, returned_top}
 use Rattle.seg_exec.proofs.Segments.{if_ok_map}
 use Rattle.seg_exec.proofs.strides.serve.leave.Goals as goal
 
 pub serve-requires : goal.serve-requires
 serve-requires g c =
+    let old = config_of c.args.machine.now in
+    let is : (c.in_ok-request.request, config_of c.give_back.new.self) ≡ returned old.work (with_operand (top old.operands) (without_operand old)) = search rules in
     may_return c.args.p.now (ways_of g.C.Cells.known g.C.Cells.may_read g.C.Cells.may_write g.C.Cells.rule) (config_of c.args.machine.now).work (config_of c.args.machine.now) (config_of c.give_back.new.self) c.args.cells.now
-    c.in_ok-request.request c.in_ok-request.ensures
+    c.in_ok-request.request (is ∙ returned_top old.work old)
 
 pub returns : goal.returns
 returns g c =
+    let old = config_of c.args.machine.now in
+    let is : (c.in_ok-request.request, config_of c.give_back.new.self) ≡ returned old.work (with_operand (top old.operands) (without_operand old)) = search rules in
     let ways = ways_of g.C.Cells.known g.C.Cells.may_read g.C.Cells.may_write g.C.Cells.rule in
     let before = doing Unwind (standing c.args.machine.now c.args.cells.now c.args.prints.now) in
     let after = standing c.serve.new.machine c.serve.new.cells c.serve.new.prints in
     if_ok_map c.serve.result (λ onward served. moves_carried c.args.p.now ways before after (course onward c.serve.new.machine) served.1
     (carries_return c.args.p.now ways (config_of c.args.machine.now).work (config_of c.args.machine.now) (config_of c.give_back.new.self) c.args.cells.now c.args.prints.now
-    c.in_ok-request.request (course onward c.serve.new.machine).ending after c.in_ok-request.ensures served.0)) c.serve.ensures
+    c.in_ok-request.request (course onward c.serve.new.machine).ending after (is ∙ returned_top old.work old) served.0)) c.serve.ensures

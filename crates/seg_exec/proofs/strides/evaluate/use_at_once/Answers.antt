@@ -9,13 +9,13 @@ use Rattle.seg_exec.specs.inner.strides.Moving.{course}
 use Rattle.seg_exec.proofs.strides.Performing.{carries_fault, carries_value, may_after, placed}
 use Rattle.seg_exec.proofs.Segments.{if_ok_map}
 use Rattle.seg_exec.proofs.strides.Moving.{then_moves}
-use Rattle.seg_exec.proofs.strides.evaluate.evaluate_then.Goals as goal
+use Rattle.seg_exec.proofs.strides.evaluate.use_at_once.Goals as goal
 
 pub use_value-requires : goal.use_value-requires
 use_value-requires g c =
     let fits : SFits w32 c.in-Ok.value = search rules in
     may_after c.args.p.now (ways_of g.C.Cells.known g.C.Cells.may_read g.C.Cells.may_write g.C.Cells.rule) c.args.expr.now c.as_slice.result.now (to_do (use_of c.args.then.now) (config_of c.args.machine.now)) (to_do (use_of c.args.then.now) (config_of c.push_operand.new.self)) c.args.cells.now c.value_of.new.cells c.args.prints.now
-    c.in-Ok.value c.as_slice.ensures c.in-Ok.ensures (ap (to_do (use_of c.args.then.now)) (c.in_ok-push_operand-in-Ok.ensures ∙ ap (λ v. with_operand v (config_of c.args.machine.now)) (to_z-of_z w32 c.in-Ok.value fits))) c.requires
+    c.in-Ok.value c.as_slice.ensures c.in-Ok.ensures (ap (to_do (use_of c.args.then.now)) (c.in_ok-push_operand-in-Ok.ensures ∙ ap (λ v. with_operand v (config_of c.args.machine.now)) (to_z-of_z w32 c.in-Ok.value fits))) c.requires.may
 
 pub returns-in-Err : goal.returns-in-Err
 returns-in-Err g c =

@@ -1,0 +1,35 @@
+use Rattle.std.proofs.Common.{◌∷◌, SFits, w32, ap, rules}
+use Rattle.std.proofs.lemmas.Int.{to_z-of_z}
+use Rattle.seg_exec.specs.Access.{ways_of}
+use Rattle.seg_exec.specs.inner.steps.Continuations.{Evaluate, Unwind, to_do, with_operand}
+use Rattle.seg_exec.specs.inner.steps.Reached.{standing}
+use Rattle.seg_exec.specs.inner.steps.Views.{config_of}
+use Rattle.seg_exec.specs.inner.strides.Strides.{doing}
+use Rattle.seg_exec.specs.inner.strides.Moving.{course}
+use Rattle.seg_exec.proofs.strides.Performing.{carries_fault, carries_value, may_after, placed}
+use Rattle.seg_exec.proofs.Segments.{if_ok_map}
+use Rattle.seg_exec.proofs.strides.Moving.{then_moves}
+use Rattle.seg_exec.proofs.strides.return_value.return_at_once.Goals as goal
+
+pub leave_with-requires : goal.leave_with-requires
+leave_with-requires g c =
+    let fits : SFits w32 c.in-Ok.value = search rules in
+    let old = to_do Unwind (config_of c.args.machine.now) in
+    may_after c.args.p.now (ways_of g.C.Cells.known g.C.Cells.may_read g.C.Cells.may_write g.C.Cells.rule) c.args.expr.now c.as_slice.result.now old _ c.args.cells.now c.value_of.new.cells c.args.prints.now
+    c.in-Ok.value c.as_slice.ensures c.in-Ok.ensures (ap (λ v. with_operand v old) (to_z-of_z w32 c.in-Ok.value fits)) c.requires.may
+
+pub returns-in-Err : goal.returns-in-Err
+returns-in-Err g c =
+    let old = config_of c.args.machine.now in
+    carries_fault c.args.p.now (ways_of g.C.Cells.known g.C.Cells.may_read g.C.Cells.may_write g.C.Cells.rule) c.args.expr.now c.as_slice.result.now old (Unwind ∷ old.work) c.args.cells.now c.value_of.new.cells c.args.prints.now
+    c.in-Err.fault c.ending.result c.as_slice.ensures c.in-Err.ensures c.ending.ensures
+
+pub returns-in-Ok : goal.returns-in-Ok
+returns-in-Ok g c =
+    let fits : SFits w32 c.in-Ok.value = search rules in
+    let ways = ways_of g.C.Cells.known g.C.Cells.may_read g.C.Cells.may_write g.C.Cells.rule in
+    let old = to_do Unwind (config_of c.args.machine.now) in
+    let after = standing c.leave_with.new.machine c.leave_with.new.cells c.leave_with.new.prints in
+    if_ok_map c.leave_with.result (λ onward rest. then_moves c.args.p.now ways (doing (Evaluate c.args.expr.now) (placed old c.args.cells.now c.args.prints.now)) _ after (course onward c.leave_with.new.machine)
+    (carries_value c.args.p.now ways c.args.expr.now c.as_slice.result.now old _ c.args.cells.now c.value_of.new.cells c.args.prints.now
+    c.in-Ok.value c.as_slice.ensures c.in-Ok.ensures (ap (λ v. with_operand v old) (to_z-of_z w32 c.in-Ok.value fits))) rest) c.leave_with.ensures
