@@ -8,7 +8,6 @@ use crate::cells::Cells;
 use crate::elements::{cell_number, element_number};
 use crate::fault::FaultCause;
 use crate::steps::variables::Variables;
-use crate::strides::plain::is_plain;
 use crate::strides::value::{Fault, value_of};
 use twe_base::Place;
 use twe_program::{Expr, Prog, Stmt, StmtKind};
@@ -58,7 +57,7 @@ fn set<C: Cells>(
         (to_target value.now target) vars.old.active cells.old result vars.new.active cells.new }
     ensures callers { vars.new.callers ≡ vars.old.callers }
 {
-    if !is_plain(value) {
+    if !value.is_plain() {
         return Carried::Left;
     }
     match value_of(value, p, vars.as_slice(), cells) {
@@ -117,10 +116,10 @@ fn set_element<C: Cells>(
         (to_element index.now value.now array place) vars.old.active cells.old result vars.new.active cells.new }
     ensures callers { vars.new.callers ≡ vars.old.callers }
 {
-    if !is_plain(index) {
+    if !index.is_plain() {
         return Carried::Left;
     }
-    if !is_plain(value) {
+    if !value.is_plain() {
         return Carried::Left;
     }
     match value_of(index, p, vars.as_slice(), cells) {

@@ -14,7 +14,6 @@ use crate::steps::continuation::{Continuation, ValueUse};
 use crate::steps::machine::Machine;
 use crate::strides::gather::call;
 use crate::strides::onward::Onward;
-use crate::strides::plain::is_plain;
 use crate::strides::serve::{serve, use_value};
 use crate::strides::value::value_of;
 use std::alloc::Global;
@@ -88,7 +87,7 @@ pub(crate) fn operand<'a, C: Cells>(
     ensures { IfOk result (MovesOn p.now C.known C.may_read C.may_write C.rule (Evaluate expr.now)
         machine.old cells.old prints.old machine.new cells.new prints.new) }
 {
-    if !is_plain(expr) {
+    if !expr.is_plain() {
         return begin_one(alloc, p, machine, cells, prints, expr);
     }
     evaluate_at_once(p, machine, cells, prints, expr)
@@ -140,7 +139,7 @@ pub(crate) fn evaluate<'a, C: Cells>(
     ensures { IfOk result (MovesOn p.now C.known C.may_read C.may_write C.rule (Evaluate expr.now)
         machine.old cells.old prints.old machine.new cells.new prints.new) }
 {
-    if is_plain(expr) {
+    if expr.is_plain() {
         return evaluate_at_once(p, machine, cells, prints, expr);
     }
     begin(alloc, p, machine, cells, prints, expr)
@@ -192,7 +191,7 @@ pub(crate) fn evaluate_then<'a, C: Cells>(
         (doing (Evaluate expr.now) (doing (use_of then.now) (standing machine.old cells.old prints.old)))
         (course onward machine.new) (standing machine.new cells.new prints.new)) }
 {
-    if is_plain(expr) {
+    if expr.is_plain() {
         return use_at_once(p, machine, cells, prints, expr, then);
     }
     machine.push(Continuation::UseValue(*then))?;

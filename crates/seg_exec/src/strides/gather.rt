@@ -20,7 +20,6 @@ use crate::steps::continuation::{Continuation, Gathering, Goal, OpenBlock};
 use crate::steps::machine::Machine;
 use crate::steps::request::Ending;
 use crate::strides::onward::Onward;
-use crate::strides::plain::is_plain;
 use crate::strides::serve::serve;
 use crate::strides::value::{Fault, value_of};
 use std::alloc::Global;
@@ -62,7 +61,7 @@ fn take_plain<'a, C: Cells>(
     let mut next = 0;
     while next < args.len() {
         let first = &args[next];
-        if !is_plain(first) {
+        if !first.is_plain() {
             let others = &args[next + 1..];
             return Ok(Taken::Left { first, others });
         }

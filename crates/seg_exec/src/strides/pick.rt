@@ -5,7 +5,6 @@ ghost use Rattle.seg_exec.specs.inner.strides.Picking.{Picks, choosing_first};
 
 use crate::arithmetic::is_true;
 use crate::cells::Cells;
-use crate::strides::plain::is_plain;
 use crate::strides::value::{Fault, value_of};
 use twe_program::{Arm, Block, Prog};
 
@@ -42,7 +41,7 @@ pub(crate) fn pick<'a, C: Cells>(
     let mut next = 0;
     while next < arms.len() {
         let arm = &arms[next];
-        if !is_plain(&arm.condition) {
+        if !arm.condition.is_plain() {
             return Picked::Left(next);
         }
         match value_of(&arm.condition, p, vars, cells) {

@@ -4,7 +4,7 @@ ghost use Rattle.seg_exec.specs.Access.{ways_of};
 ghost use Rattle.seg_exec.specs.inner.steps.Continuations.{Apply, Evaluate, Right, Unwind};
 ghost use Rattle.seg_exec.specs.inner.steps.Reached.{standing};
 ghost use Rattle.seg_exec.specs.inner.strides.Moving.{Moves, course};
-ghost use Rattle.seg_exec.specs.inner.strides.Plainly.{is_plain};
+ghost use Rattle.twe_program.specs.Expression.{is_plain};
 ghost use Rattle.seg_exec.specs.inner.strides.Strides.{MayGo, doing};
 
 use crate::arithmetic::{decide, is_true, operate};
@@ -15,7 +15,6 @@ use crate::steps::machine::Machine;
 use crate::steps::request::Ending;
 use crate::strides::evaluate::{begin, begin_one, operand};
 use crate::strides::onward::Onward;
-use crate::strides::plain::is_plain;
 use crate::strides::serve::leave_with;
 use crate::strides::value::value_of;
 use std::alloc::Global;
@@ -97,7 +96,7 @@ pub(crate) fn return_value<'a, C: Cells>(
         (doing (Evaluate expr.now) (doing Unwind (standing machine.old cells.old prints.old)))
         (course onward machine.new) (standing machine.new cells.new prints.new)) }
 {
-    if is_plain(expr) {
+    if expr.is_plain() {
         return return_at_once(p, machine, cells, prints, expr);
     }
     begin_return(alloc, p, machine, cells, prints, expr)
@@ -152,7 +151,7 @@ fn return_right<'a, C: Cells>(
         (doing (Evaluate right.now) (doing (Apply op place) (doing Unwind (standing machine.old cells.old prints.old))))
         (course onward machine.new) (standing machine.new cells.new prints.new)) }
 {
-    if !is_plain(right) {
+    if !right.is_plain() {
         machine.push(Continuation::ApplyThenReturn { op, place })?;
         return begin(alloc, p, machine, cells, prints, right);
     }

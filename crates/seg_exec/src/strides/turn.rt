@@ -16,7 +16,6 @@ use crate::steps::request::Ending;
 use crate::strides::carry::{CarriedOut, carry_out};
 use crate::strides::evaluate::evaluate_then;
 use crate::strides::onward::Onward;
-use crate::strides::plain::is_plain;
 use crate::strides::value::value_of;
 use std::alloc::Global;
 use twe_base::{Ints, Memory, Place};
@@ -103,7 +102,7 @@ pub(crate) fn turn<'a, C: Cells>(
         (looping condition.now again.now body.now place (standing machine.old cells.old prints.old))
         (course onward machine.new) (standing machine.new cells.new prints.new)) }
 {
-    if !is_plain(condition) {
+    if !condition.is_plain() {
         let then = ValueUse::Turn { again, body, place };
         return evaluate_then(alloc, p, machine, cells, prints, condition, &then);
     }
