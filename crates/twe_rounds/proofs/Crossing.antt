@@ -52,10 +52,10 @@ operation : IsSync (as_row BinOp.the_field)
 operation = as_row_sync BinOp.the_field operator.the_field_sync
 
 expr_sync : IsSync Expr.the_row
-expr_sync = expressions.sync-Expr heap.Vec-sync integer truth number where_ heap.Box-sync (λ h s. option.the_sync _ (heap.Box-sync h s)) operation
+expr_sync = expressions.sync-Expr heap.Vec-sync truth integer number where_ heap.Box-sync (λ h s. option.the_sync _ (heap.Box-sync h s)) operation
 
 args_sync : IsSync Args.the_row
-args_sync = expressions.sync-Args heap.Vec-sync integer truth number where_ heap.Box-sync (λ h s. option.the_sync _ (heap.Box-sync h s)) operation
+args_sync = expressions.sync-Args heap.Vec-sync truth integer number where_ heap.Box-sync (λ h s. option.the_sync _ (heap.Box-sync h s)) operation
 
 block_sync : IsSync Block.the_row
 block_sync =
