@@ -4,7 +4,7 @@ use denote.Param.Send.{IsSync, recorded_sync, sendable, shr_sync, struct_sync, v
 use denote.Ref.{NamedLft}
 use denote.RattleType.{RattleType}
 use denote.Struct.Declared.{shape}
-use denote.Struct.Field.{u64-field}
+use denote.Struct.Field.{u32-field, u64-field}
 use Rattle.std.proofs.alloc.Global.TheSendSync as global
 use Rattle.std.proofs.marker.PhantomData.TheSendSync as phantom
 use Rattle.std.proofs.sync.atomic.AtomicBool.TheSendSync as flag
@@ -34,6 +34,9 @@ setup_sync ℓ =
 number_sync : IsSync u64-field.row
 number_sync = search sendable
 
+place_sync : IsSync u32-field.row
+place_sync = search sendable
+
 pub ground_sync : (ℓ : NamedLft) (N F : RattleType) (n : Named.Ghosts N.Denot) (t : Planted.Ghosts N.Denot) (f : Located.Ghosts F.Denot)
     → IsSync (Ground.the_row ℓ N F n t f)
 ground_sync ℓ N F n t f =
@@ -41,5 +44,5 @@ ground_sync ℓ N F n t f =
     (recorded_sync (inside.the_field ℓ N F n t f).row _ _ (inside.the_type ℓ N F n t f).to_one
     (struct_sync (shape (inside.the_type ℓ N F n t f)) (
       shr_sync _ _ (Setup.the_row ℓ) (setup_sync ℓ),
-      (shr_sync _ _ (Floor.the_row N n t) (floor.the_sync N n t), (flag.the_field_sync, (number_sync, (waiters.the_field_sync, (phantom.the_field_sync F, tt))))),
+      (shr_sync _ _ (Floor.the_row N n t) (floor.the_sync N n t), (flag.the_field_sync, (number_sync, (place_sync, (waiters.the_field_sync, (phantom.the_field_sync F, tt)))))),
     )))

@@ -10,3 +10,5 @@ pub mod FirstEntries
 pub mod Crossing
 -- What a quiet step or a round does to a run, as what it does to its crew.
 pub mod QuietSteps
+-- A lower limit on tasks changes nothing of a run as long as fewer tasks were asked for.
+pub mod TaskLimits

@@ -1,18 +1,25 @@
-//! Whether a floor is worth what it costs.
+//! Whether a floor is worth what it costs, and how large it is.
 //!
-//! To lay out a floor and to take the run back costs a pass over all tasks that may be made, over all nodes and over all entries,
-//! and a segment costs more on a floor than at rest. A run whose tasks are short would spend its time on floors. So its work pays
-//! for them: after a floor, another one is laid out only once as much work was done as it costs. And a floor is for so many tasks
-//! at first. If they were short, moves are taken at rest until a long segment comes; if not, the next floor is for more of them.
-//! All that is counted here is an estimate, on which no clause rests.
+//! To lay out a floor and to take the run back costs a pass over all tasks that it has room for, over all nodes and over all
+//! entries, and a segment costs more on a floor than at rest. A run whose tasks are short would spend its time on floors. So its
+//! work pays for them: after a floor, another one is laid out only once as much work was done as it costs. And a floor is for few
+//! tasks at first, and has room for few more. If they were short, moves are taken at rest until a long segment comes; if not, the
+//! next floor is for more of them, and larger. One worker has nobody beside it, so for it no floor is worth its cost. All that is
+//! counted here is an estimate, on which no clause rests.
 
-use seg_journal::{End, Entry};
+use seg_journal::End;
 use task_floor::steps::Rest;
 use twe_base::Limits;
 use twe_machine::State;
 
-/// What a move counts beside the fuel that it takes, in units of fuel.
-const PER_MOVE: u64 = 8;
+/// What a move counts beside the fuel that it takes, in units of fuel. A turn of a short loop takes one unit.
+const PER_MOVE: u64 = 80;
+
+/// What a floor costs for each task that it has room for and for each node, in units of fuel.
+const PER_SLOT: u64 = 80;
+
+/// What a floor costs for each entry of the journal, in units of fuel.
+const PER_ENTRY: u64 = 8;
 
 /// How much fuel a segment takes, or a task, that is worth a worker.
 const LONG: u64 = 150;
@@ -22,6 +29,12 @@ const FIRST_TASKS: u64 = 64;
 
 /// How many times as many it ends on the next floor if they were long.
 const MORE_TASKS: u64 = 64;
+
+/// How many tasks the first floor has room for, and one after a floor whose tasks were short, if not more are made.
+const FIRST_ROOM: u32 = 1024;
+
+/// How many times as many the next floor has room for if they were long.
+const MORE_ROOM: u32 = 16;
 
 /// The account of a run.
 #[derive(Drop)]
@@ -36,23 +49,30 @@ pub(crate) struct Account {
     is_fine: bool,
     // How many tasks a worker ends on the next floor.
     tasks: u64,
+    // How many tasks the next floor has room for, if not more are made.
+    room: u32,
+    // Whether there are several workers.
+    is_crew: bool,
 }
 
 impl Account {
-    /// The account of a run that has not begun. The first floor costs nothing.
-    pub(crate) fn new() -> Self {
+    /// The account of a run by so many workers that has not begun. The first floor costs nothing.
+    pub(crate) fn new(workers: u32) -> Self {
         Account {
             work: 0,
             due: 0,
             entries: 0,
             is_fine: false,
             tasks: FIRST_TASKS,
+            room: FIRST_ROOM,
+            is_crew: workers > 1,
         }
     }
 
-    /// Whether another floor is worth its cost: the work so far has paid for it, and it is not known that tasks are short.
+    /// Whether another floor is worth its cost: there are several workers, the work so far has paid for it, and it is not known
+    /// that tasks are short.
     pub(crate) fn is_worth_a_floor(&self) -> bool {
-        !self.is_fine && self.work >= self.due
+        self.is_crew && !self.is_fine && self.work >= self.due
     }
 
     /// How many tasks a worker ends on the next floor.
@@ -68,48 +88,55 @@ impl Account {
         }
     }
 
-    /// A floor with so many nodes is laid out for a run.
-    pub(crate) fn lay_out(&mut self, lim: Limits, nodes: u32, rest: &Rest) {
+    /// How many tasks the next floor has room for: twice those that are made and more, and at most as many as may be made.
+    pub(crate) fn room(&self, lim: Limits, st: &State) -> u32 {
+        let made = st.links.task_count();
+        let room = made.saturating_mul(2).saturating_add(FIRST_ROOM);
+        room.max(self.room).min(lim.tasks)
+    }
+
+    /// A floor with room for so many tasks and with so many nodes is laid out for a run.
+    pub(crate) fn lay_out(&mut self, room: u32, nodes: u32, rest: &Rest) {
         self.entries = rest.journal.len() as u64;
+        let slots = u64::from(room).saturating_add(u64::from(nodes));
         self.due = self
             .work
-            .saturating_add(lim.tasks as u64)
-            .saturating_add(nodes as u64)
-            .saturating_add(self.entries);
+            .saturating_add(slots.saturating_mul(PER_SLOT))
+            .saturating_add(self.entries.saturating_mul(PER_ENTRY));
     }
 
     /// Counts the work of a run that comes back from a floor.
     pub(crate) fn recount(&mut self, lim: Limits, rest: &Rest) {
         let entries = rest.journal.len() as u64;
-        let work = entries
+        self.work = entries
             .saturating_mul(PER_MOVE)
             .saturating_add(fuel_taken(lim, &rest.state));
-        let moves = entries.saturating_sub(self.entries);
-        let fuel = work
-            .saturating_sub(self.work)
-            .saturating_sub(moves.saturating_mul(PER_MOVE));
-        let ended = count_ended(rest.journal.as_slice(), self.entries as usize);
-        self.work = work;
+        let (ended, fuel) = count_ended(lim, rest, self.entries as usize);
         self.is_fine = fuel < ended.saturating_mul(LONG);
-        self.tasks = if self.is_fine {
-            FIRST_TASKS
+        if self.is_fine {
+            self.tasks = FIRST_TASKS;
+            self.room = FIRST_ROOM;
         } else {
-            self.tasks.saturating_mul(MORE_TASKS)
-        };
+            self.tasks = self.tasks.saturating_mul(MORE_TASKS);
+            self.room = self.room.saturating_mul(MORE_ROOM);
+        }
     }
 }
 
-/// How many tasks have ended in the entries from this one on.
-fn count_ended(journal: &[Entry], from: usize) -> u64 {
+/// How many tasks have ended in the entries from this one on, and how much fuel they have taken.
+fn count_ended(lim: Limits, rest: &Rest, from: usize) -> (u64, u64) {
     let mut ended = 0u64;
-    for at in from..journal.len() {
-        if let Some(entry) = journal.get(at)
+    let mut fuel = 0u64;
+    for at in from..rest.journal.len() {
+        if let Some(entry) = rest.journal.get(at)
             && let End::Done { .. } = entry.end
         {
+            let left = fuel_left(&rest.state, entry.mv.task);
             ended = ended.saturating_add(1);
+            fuel = fuel.saturating_add(lim.fuel.saturating_sub(left));
         }
     }
-    ended
+    (ended, fuel)
 }
 
 /// The fuel that all tasks have taken.

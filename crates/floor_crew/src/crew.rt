@@ -81,7 +81,7 @@ impl FloorCrew {
             lim,
             workers,
             run: Some(run),
-            book: Book::new(alloc),
+            book: Book::new(alloc, workers),
         })
     }
 

@@ -10,10 +10,9 @@ use crate::alone::{go_on_alone, take};
 use crate::at_rest::RunAtRest;
 use crate::book::Book;
 use crate::quiet::next_move;
-use crate::round::round;
+use crate::room::round_within;
 use crate::setup::Setup;
 use run_gates::Gate;
-use std::marker::Brand;
 use std::sync::Wait;
 use std::thread::Threads;
 use twe_base::Memory;
@@ -65,22 +64,24 @@ fn go_on_from<R: Threads + Wait + Sync, G: Gate + Sync>(
         if !go_on_alone(setup, &mut run, book)? {
             return Ok(run);
         }
-        book.account
-            .lay_out(setup.lim, setup.shape.nodes(), &run.rest);
+        let room = book.account.room(setup.lim, &run.rest.state);
+        book.account.lay_out(room, setup.shape.nodes(), &run.rest);
         book.begin_round()?;
-        run = side_by_side(rt, setup, workers, book.account.tasks(), run, gate)?;
+        run = side_by_side(rt, setup, workers, book.account.tasks(), room, run, gate)?;
         book.account.recount(setup.lim, &run.rest);
         book.read(run.rest.journal.as_slice())?;
     }
     unreachable!()
 }
 
-/// The run after a round of the workers, which ends once one of them has ended so many tasks.
+/// The run after a round of the workers on a floor with room for so many tasks. It ends once one of them has ended so many, or
+/// once there is room for no more.
 fn side_by_side<R: Threads + Wait + Sync, G: Gate + Sync>(
     rt: &R,
     setup: &Setup<'_>,
     workers: u32,
     tasks: u64,
+    room: u32,
     run: RunAtRest,
     gate: &G,
 ) -> Result<RunAtRest, Memory>
@@ -90,6 +91,6 @@ fn side_by_side<R: Threads + Wait + Sync, G: Gate + Sync>(
     ensures { IfOk result (HasGoneOn setup.now.p.now setup.now.lim run.rest.journal) }
 {
     let RunAtRest { rest, .. } = run;
-    let rest = round::<Brand, R, G>(rt, setup, workers, tasks, rest, gate)?;
+    let rest = round_within(rt, setup, workers, tasks, room, rest, gate)?;
     RunAtRest::of(setup.alloc, setup.p, setup.lim, rest)
 }

@@ -28,11 +28,13 @@ const MOST_TRIES: u32 = 16;
 pub(crate) struct Ground<'a, N: Named + Planted, F: Located> {
     setup: &'a Setup<'a>,
     floor: &'a Floor<N>,
-    // Whether the round is to end: some task has met a fault, or a worker has ended enough tasks. Then no worker begins a
-    // segment.
+    // Whether the round is to end: some task has met a fault, a worker has ended enough tasks, or there is room for no further
+    // task. Then no worker begins a segment.
     is_over: AtomicBool,
     // How many tasks of one worker are enough.
     tasks: u64,
+    // From which number on a task that is made is to be one of the last.
+    full: u32,
     // Which tasks were found to wait.
     waiters: Waiters,
     of: PhantomData<F>,
@@ -51,12 +53,14 @@ impl<'a, N: Named + Planted, F: Located> Model for Ground<'a, N, F> {
 }
 
 impl<'a, N: Named + Planted, F: Located> Ground<'a, N, F> {
-    /// The ground of a round on this floor, in which a worker ends so many tasks.
+    /// The ground of a round on this floor, in which a worker ends so many tasks, and which ends once a task with the number
+    /// `full` or a higher one was made.
     pub(crate) fn new(
         setup: &'a Setup<'a>,
         floor: &'a Floor<N>,
         waiters: Waiters,
         tasks: u64,
+        full: u32,
     ) -> Self
         requires located { floor.now ≡ F.table }
         requires named { (setup.now.p.now ≡ N.prog) × (setup.now.lim ≡ N.lim) × (setup.now.shape.now ≡ N.nodes) }
@@ -66,6 +70,7 @@ impl<'a, N: Named + Planted, F: Located> Ground<'a, N, F> {
             floor,
             is_over: AtomicBool::new(false),
             tasks,
+            full,
             waiters,
             of: PhantomData,
         }
@@ -265,6 +270,11 @@ impl<'a, N: Named + Planted, F: Located> Ground<'a, N, F> {
     /// Whether so many tasks that one worker has ended are enough for the round.
     pub(crate) fn are_enough(&self, tasks: u64) -> bool {
         tasks >= self.tasks
+    }
+
+    /// Whether the floor has no room for further tasks after this one.
+    pub(crate) fn is_full(&self, child: u32) -> bool {
+        child >= self.full
     }
 
     /// The round is to end: no worker begins another segment.

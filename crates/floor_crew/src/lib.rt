@@ -17,6 +17,7 @@ mod located;
 mod looking;
 mod on_floor;
 mod quiet;
+mod room;
 mod round;
 mod rounds;
 mod setup;

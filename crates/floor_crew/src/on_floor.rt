@@ -138,7 +138,8 @@ impl<'a, R: Wait, N: Named + Planted, F: Located, G: Gate> OnFloor<'a, R, N, F, 
         }
     }
 
-    /// Notes how a segment of a task has ended. The round is to end if that is a fault, or if this worker has ended enough tasks.
+    /// Notes how a segment of a task has ended. The round is to end if that is a fault, if this worker has ended enough tasks, or
+    /// if the floor has no room for further tasks.
     fn note(&mut self, task: u32, end: End) -> Result<(), Memory> {
         match end {
             End::Done { .. } => {
@@ -147,6 +148,12 @@ impl<'a, R: Wait, N: Named + Planted, F: Located, G: Gate> OnFloor<'a, R, N, F, 
             }
             End::Fault { .. } => {
                 self.ground.stop();
+                Ok(())
+            }
+            End::Made { child } => {
+                if self.ground.is_full(child) {
+                    self.ground.stop();
+                }
                 Ok(())
             }
             _ => Ok(()),

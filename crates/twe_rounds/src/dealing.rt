@@ -8,8 +8,8 @@ use steal_pool::{Deck, Decks, make_decks};
 use twe_base::Memory;
 use twe_machine::{State, TaskStatus};
 
-/// How many pushes a deck has room for beside the numbers that are dealt.
-const SPARE: u32 = 1024;
+/// How many pushes all decks together have room for beside the numbers that are dealt.
+const SPARE: u32 = 65_536;
 
 /// The workers of a round, and how many numbers they have to deal with.
 #[derive(Drop)]
@@ -29,7 +29,8 @@ pub fn deal(
     workers: u32,
     first: Option<u32>,
 ) -> Result<Team, Memory> {
-    let capacity = count_undone(state).saturating_add(SPARE);
+    let spare = spare_pushes(bound, state.links.task_count(), workers);
+    let capacity = count_undone(state).saturating_add(spare);
     let decks = make_decks(alloc, workers, capacity, bound)?;
     let mut team = Team {
         workers: workers_of(alloc, decks, bound, entries)?,
@@ -61,6 +62,13 @@ fn deal_to(team: &mut Team, task: u32) {
     {
         team.pending = team.pending.saturating_add(1);
     }
+}
+
+/// How many pushes a deck has room for beside the numbers that are dealt: one for each task that may still be made, if there are
+/// not too many.
+fn spare_pushes(bound: u32, made: u32, workers: u32) -> u32 {
+    let share = SPARE.checked_div(workers).unwrap_or(SPARE);
+    bound.saturating_sub(made).min(share)
 }
 
 /// How many tasks are not done.

@@ -1,4 +1,4 @@
-use Rattle.floor_crew.proofs.going_on.side_by_side.Given as goal
+use Rattle.floor_crew.proofs.room.on_own_floor.Given as goal
 
 -- the round is about the program, the limits and the nodes
 abbrev pub ghosts-round-N-Named : goal.ghosts-round-N-Named

@@ -1,0 +1,109 @@
+//! A round on a floor with room for fewer tasks than may be made, which is laid out in less time.
+//!
+//! It is a round under a lower limit on tasks. As long as fewer tasks were asked for than that, the journal and the state are the
+//! same under both limits. The workers stop before a task is made for which there is no room. If one was asked for all the same,
+//! the run goes on from where it was before the round.
+ghost use Rattle.std.specs.Prelude.{◌≡◌, ◌≤◌, IfOk, map};
+ghost use mathlib.Core.List.{IsPrefix};
+ghost use Rattle.seg_journal.specs.Spelling.{move_of};
+ghost use Rattle.isolation_laws.specs.soundness.KeepsEffects.{KeepsEffects};
+ghost use Rattle.twe_machine.specs.Runs.{IsRun, Legal};
+
+use crate::round::round;
+use crate::setup::Setup;
+use run_gates::Gate;
+use seg_journal::{Entry, Moves};
+use std::alloc::Global;
+use std::marker::Brand;
+use std::sync::Wait;
+use std::thread::Threads;
+use task_floor::steps::Rest;
+use twe_base::{Limits, Memory};
+use twe_machine::{ReplayFail, moves_make_the_journal, one_first_illegal, replay_journal};
+
+/// A round of so many workers, of whom one ends so many tasks at most, on a floor with room for so many tasks, or for all that may
+/// be made. Returns the run after that, whose journal begins with the one from before.
+pub(crate) fn round_within<R: Threads + Wait + Sync, G: Gate + Sync>(
+    rt: &R,
+    setup: &Setup<'_>,
+    workers: u32,
+    tasks: u64,
+    room: u32,
+    rest: Rest,
+    gate: &G,
+) -> Result<Rest, Memory>
+    requires some { 1 ≤ workers }
+    requires accepted { KeepsEffects setup.now.p.now }
+    requires run { IsRun setup.now.p.now setup.now.lim rest.journal rest.state }
+    ensures run { IfOk result (λ after. IsRun setup.now.p.now setup.now.lim after.journal after.state) }
+    ensures begins { IfOk result (λ after. IsPrefix rest.journal after.journal) }
+{
+    let (p, lim) = (setup.p, setup.lim);
+    if room >= lim.tasks || rest.state.asked >= room {
+        return on_own_floor(rt, setup, workers, tasks, u32::MAX, rest, gate);
+    }
+    let before = rest.journal.len();
+    let lower = Setup {
+        alloc: setup.alloc,
+        p,
+        lim: Limits {
+            fuel: lim.fuel,
+            tasks: room,
+        },
+        shape: setup.shape,
+    };
+    let full = room.saturating_sub(workers);
+    let after = on_own_floor(rt, &lower, workers, tasks, full, rest, gate)?;
+    if after.state.asked < room {
+        return Ok(after);
+    }
+    go_back(setup, &after.journal.as_slice()[..before])
+}
+
+/// A round on a floor that is laid out for it.
+fn on_own_floor<R: Threads + Wait + Sync, G: Gate + Sync>(
+    rt: &R,
+    setup: &Setup<'_>,
+    workers: u32,
+    tasks: u64,
+    full: u32,
+    rest: Rest,
+    gate: &G,
+) -> Result<Rest, Memory>
+    requires some { 1 ≤ workers }
+    requires accepted { KeepsEffects setup.now.p.now }
+    requires run { IsRun setup.now.p.now setup.now.lim rest.journal rest.state }
+    ensures run { IfOk result (λ after. IsRun setup.now.p.now setup.now.lim after.journal after.state) }
+    ensures begins { IfOk result (λ after. IsPrefix rest.journal after.journal) }
+{
+    round::<Brand, R, G>(rt, setup, workers, tasks, full, rest, gate)
+}
+
+/// The run that has these entries.
+fn go_back(setup: &Setup<'_>, entries: &[Entry]) -> Result<Rest, Memory>
+    requires { Legal setup.now.p.now setup.now.lim entries.now }
+    ensures run { IfOk result (λ back. IsRun setup.now.p.now setup.now.lim back.journal back.state) }
+    ensures same { IfOk result (λ back. back.journal ≡ entries.now) }
+{
+    one_first_illegal();
+    moves_make_the_journal();
+    let (alloc, p, lim) = (setup.alloc, setup.p, setup.lim);
+    let _main = p.main;
+    let moves = moves_of(alloc, entries)?;
+    match replay_journal(alloc, p, lim, moves.as_slice()) {
+        Ok((journal, state)) => Ok(Rest { state, journal }),
+        Err(ReplayFail::Illegal { .. }) => unreachable!(),
+        Err(ReplayFail::OutOfMemory(memory)) => Err(memory),
+    }
+}
+
+/// The moves of the entries, in order.
+fn moves_of(alloc: Global, entries: &[Entry]) -> Result<Moves, Memory>
+    ensures { IfOk result (λ moves. moves ≡ map move_of entries.now) }
+{
+    let mut moves = Moves::new(alloc);
+    for entry in entries {
+        moves.push(entry.mv)?;
+    }
+    Ok(moves)
+}
