@@ -12,7 +12,7 @@ use Rattle.floor_rule.specs.declared.view.TaskSlot.{TaskSlot}
 use Rattle.floor_rule.specs.Floors.{Floor, Home, Away, Empty, Holds}
 use Rattle.floor_table.specs.declared.view.TurnChange.{TurnChange}
 use Rattle.floor_table.specs.declared.view.View.{View}
-use Rattle.floor_table.specs.Layout.{asked_of_clock, cell_words_from, clock_place, entries_of_clock, line, number_at, phase_word_at, phase_place, turn_word_at, turn_place}
+use Rattle.floor_table.specs.Layout.{asked_of_clock, cell_words_from, clock_place, entries_of_clock, cache_line, number_at, phase_word_at, phase_place, turn_word_at, turn_place}
 
 -- a table of the floor: a slot holds a task, or nothing before its task is made
 abbrev pub Table : Type 0
@@ -62,7 +62,7 @@ abbrev pub floor_of : Program → Table → Floor
 floor_of p s = record {
   entries = entries_of_clock (number_at (get_elem? s.words clock_place));
   asked = asked_of_clock (number_at (get_elem? s.words clock_place));
-  cells = cell_words_from s.words line (cell_count p);
+  cells = cell_words_from s.words cache_line (cell_count p);
   turns = λ t. turn_word_at (get_elem? s.words (turn_place p t));
   phases = λ t. phase_word_at (get_elem? s.words (phase_place p t));
   homes = λ t. home_at (get_elem? s.homes t);

@@ -9,12 +9,12 @@ use Rattle.floor_rule.specs.declared.view.Phase.TheVariants.{Absent, Made, Runni
 use Rattle.floor_rule.specs.Floors.{TurnWord, Free, Taken, New}
 
 -- how many words a cache line of 64 bytes has: words that lie so far apart share no line, wherever the table begins
-abbrev pub line : ℕ
-line = 8
+abbrev pub cache_line : ℕ
+cache_line = 8
 
 -- how many words lie from the turn word of a task to that of the next one: its turn word, its phase word, and seven more
-abbrev pub task_words : ℕ
-task_words = 9
+abbrev pub task_span : ℕ
+task_span = 9
 
 -- Word 0 is the clock. The words of the cells follow, and then for each task its turn word and its phase word. Behind the clock,
 -- behind the word of each cell and behind the two words of each task are seven words that are not used. So the clock, the words
@@ -24,19 +24,19 @@ clock_place = 0
 
 -- the place of a cell's word
 abbrev pub cell_place : ℕ → ℕ
-cell_place c = line + line * c
+cell_place c = cache_line + cache_line * c
 
 -- the place of a task's turn word
 abbrev pub turn_place : Program → ℕ → ℕ
-turn_place p t = line + line * cell_count p + task_words * t
+turn_place p t = cache_line + cache_line * cell_count p + task_span * t
 
 -- the place of a task's phase word
 abbrev pub phase_place : Program → ℕ → ℕ
-phase_place p t = line + line * cell_count p + task_words * t + 1
+phase_place p t = cache_line + cache_line * cell_count p + task_span * t + 1
 
 -- how many words there are
 abbrev pub word_count : Program → Bounds → ℕ
-word_count p lim = line + line * cell_count p + task_words * lim.tasks
+word_count p lim = cache_line + cache_line * cell_count p + task_span * lim.tasks
 
 -- the clock counts entries by 1 and makes by 2 ^ 45
 abbrev pub entries_of_clock : ℕ → ℕ
@@ -98,7 +98,7 @@ phase_word_at (some n) = phase_of_word n
 abbrev pub cell_words_from : List ℕ → ℕ → ℕ → List ℤ
 cell_words_from words place zero = []
 cell_words_from words place (suc n) =
-    value_of_word (number_at (get_elem? words place)) ∷ cell_words_from words (place + line) n
+    value_of_word (number_at (get_elem? words place)) ∷ cell_words_from words (place + cache_line) n
 
 -- the number that stands for a phase
 abbrev pub word_of_phase : Phase → ℕ

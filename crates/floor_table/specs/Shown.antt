@@ -14,7 +14,7 @@ use Rattle.floor_rule.specs.declared.view.TaskSlot.{TaskSlot}
 use Rattle.floor_rule.specs.Rows.{phase_of}
 use Rattle.floor_table.specs.declared.view.View.{View}
 use Rattle.floor_table.specs.Holds.{Ended}
-use Rattle.floor_table.specs.Layout.{asked_of_clock, cell_words_from, clock_place, line, number_at, phase_place, phase_word_at, word_count}
+use Rattle.floor_table.specs.Layout.{asked_of_clock, cell_words_from, clock_place, cache_line, number_at, phase_place, phase_word_at, word_count}
 
 -- The words and slots are those of the program and the limits. The clock says how many tasks were asked for, the phase word of
 -- each task is the one of its row, and the slots of tasks that are not made are empty.
@@ -22,7 +22,7 @@ pub record ShowsRest (p : Program) (lim : Bounds) (st : State) (words : List ℕ
   pub word_count : length words ≡ word_count p lim
   pub slot_count : length slots ≡ lim.tasks
   pub asked : asked_of_clock (number_at (get_elem? words clock_place)) ≡ st.asked
-  pub cells : cell_words_from words line (cell_count p) ≡ st.cells
+  pub cells : cell_words_from words cache_line (cell_count p) ≡ st.cells
   pub phases : (t : ℕ) (row : TaskRow) → IsRow st t row → phase_word_at (get_elem? words (phase_place p t)) ≡ phase_of row
   pub unmade : (t : ℕ) → length st.tasks ≤ t → t < lim.tasks → get_elem? slots t ≡ core.some None
 

@@ -12,10 +12,10 @@ use std::alloc::Global;
 use std::marker::Model;
 
 /// How many words a cache line of 64 bytes has.
-pub(crate) const LINE: usize = 8;
+pub(crate) const CACHE_LINE: usize = 8;
 
 /// How many words lie from the turn word of a task to that of the next one.
-pub(crate) const TASK_WORDS: usize = 9;
+pub(crate) const TASK_SPAN: usize = 9;
 
 /// The floor of a run with the nodes of its tree, which all workers share. `N` names the program, the limits and the nodes.
 /// Clauses see the name of its table.
@@ -79,7 +79,7 @@ impl<N: Named + Planted> Floor<N> {
         requires counts { (cells ≡ cell_count N.prog) × (tasks ≡ N.lim.tasks) }
         ensures { result ≡ word_count N.prog N.lim }
     {
-        LINE + LINE * cells + TASK_WORDS * tasks as usize
+        CACHE_LINE + CACHE_LINE * cells + TASK_SPAN * tasks as usize
     }
 
     /// Where the word of a cell lies.
@@ -88,7 +88,7 @@ impl<N: Named + Planted> Floor<N> {
         ensures { result ≡ cell_place cell }
     {
         let _words = self.words;
-        LINE + LINE * cell as usize
+        CACHE_LINE + CACHE_LINE * cell as usize
     }
 
     /// Where the turn word of a task lies.
@@ -97,7 +97,7 @@ impl<N: Named + Planted> Floor<N> {
         ensures { result ≡ turn_place N.prog task }
     {
         let _words = self.words;
-        LINE + LINE * self.cells + TASK_WORDS * task as usize
+        CACHE_LINE + CACHE_LINE * self.cells + TASK_SPAN * task as usize
     }
 
     /// Where the phase word of a task lies.
@@ -106,7 +106,7 @@ impl<N: Named + Planted> Floor<N> {
         ensures { result ≡ phase_place N.prog task }
     {
         let _words = self.words;
-        LINE + LINE * self.cells + TASK_WORDS * task as usize + 1
+        CACHE_LINE + CACHE_LINE * self.cells + TASK_SPAN * task as usize + 1
     }
 
     /// Where the lock word of a node lies.

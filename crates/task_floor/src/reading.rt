@@ -7,7 +7,7 @@ ghost use Rattle.floor_rule.specs.Shown.{first_fault_in, row_by, status_by, valu
 ghost use Rattle.floor_table.specs.Layout.{cell_place, cell_words_from, line, number_at, phase_of_word, task_words};
 ghost use Rattle.task_floor.specs.steps.inner.Reading.{held_in, joined_unless, row_in, rows_from};
 
-use crate::floor::{LINE, TASK_WORDS};
+use crate::floor::{CACHE_LINE, TASK_SPAN};
 use crate::unjoined::unjoined;
 use crate::words::value_of;
 use floor_rule::TaskSlot;
@@ -24,7 +24,7 @@ pub(crate) fn cells_of(alloc: Global, words: &[u64], count: usize) -> Result<Int
 {
     let mut cells = Ints::new(alloc);
     for c in 0..count {
-        cells.push(value_of(words[LINE + LINE * c]))?;
+        cells.push(value_of(words[CACHE_LINE + CACHE_LINE * c]))?;
     }
     Ok(cells)
 }
@@ -44,7 +44,7 @@ pub(crate) fn rows_of(
     let mut rows = List::new(alloc);
     for t in 0..slots.len() {
         let slot = slots.item_mut(t).take();
-        let word = words[first + TASK_WORDS * t + 1];
+        let word = words[first + TASK_SPAN * t + 1];
         add_row(alloc, &mut rows, slot, word, marks.as_slice()[t])?;
     }
     Ok(rows)

@@ -8,7 +8,7 @@ use Rattle.twe_machine.specs.Rows.{link_of_row}
 use Rattle.floor_rule.specs.declared.view.Phase.{Phase}
 use Rattle.floor_rule.specs.declared.view.TaskSlot.{TaskSlot}
 use Rattle.floor_rule.specs.Shown.{is_unjoined, row_by}
-use Rattle.floor_table.specs.Layout.{phase_word_at, task_words}
+use Rattle.floor_table.specs.Layout.{phase_word_at, task_span}
 
 -- what lies in those slots that are not empty
 abbrev pub held_in : List (Option TaskSlot) → List TaskSlot
@@ -31,7 +31,7 @@ row_in (Some slot) phase unjoined = row_by slot phase (joined_unless slot.parent
 abbrev pub rows_from : List ℕ → ℕ → List TaskSlot → ℕ → List (Option TaskSlot) → List TaskRow
 rows_from words first all t [] = []
 rows_from words first all t (slot ∷ slots) =
-    row_in slot (phase_word_at (get_elem? words (first + task_words * t + 1))) (is_unjoined t all)
+    row_in slot (phase_word_at (get_elem? words (first + task_span * t + 1))) (is_unjoined t all)
     ++ rows_from words first all (t + 1) slots
 
 -- the links of a task before its waits and marks are set
