@@ -12,7 +12,7 @@ ghost use Rattle.task_floor.specs.steps.Resting.{IsRestOf};
 
 use crate::clock::asked_of;
 use crate::emptying::Emptied;
-use crate::floor::{Floor, LINE, Stand};
+use crate::floor::{CACHE_LINE, Floor, Stand};
 use crate::linking::links_of;
 use crate::reading::{cells_of, first_fault_in, rows_of};
 use crate::steps::Rest;
@@ -62,7 +62,7 @@ impl<N: Named + Planted> Floor<N> {
         let words = words.as_slice();
         let asked = asked_of(words[0]);
         let values = cells_of(alloc, words, cells)?;
-        let tasks = rows_of(alloc, words, LINE + LINE * cells, slots)?;
+        let tasks = rows_of(alloc, words, CACHE_LINE + CACHE_LINE * cells, slots)?;
         let links = links_of(alloc, tasks.as_slice())?;
         Ok(State {
             cells: values,
