@@ -4,7 +4,7 @@ ghost use lib.ListN.{get_elem?};
 ghost use Rattle.twe_machine.specs.declared.state.TaskRow.{TaskRow};
 ghost use Rattle.seg_journal.specs.declared.journal.Entry.{Entry};
 ghost use Rattle.floor_rule.specs.Shown.{first_fault_in, row_by, status_by, value_by};
-ghost use Rattle.floor_table.specs.Layout.{cell_place, cell_words_from, line, number_at, phase_of_word, task_words};
+ghost use Rattle.floor_table.specs.Layout.{cell_place, cell_words_from, cache_line, number_at, phase_of_word, task_span};
 ghost use Rattle.task_floor.specs.steps.inner.Reading.{held_in, joined_unless, row_in, rows_from};
 
 use crate::floor::{CACHE_LINE, TASK_SPAN};
@@ -18,9 +18,9 @@ use twe_machine::{FirstFault, TaskRow, TaskStatus};
 
 /// The values of this many cells.
 pub(crate) fn cells_of(alloc: Global, words: &[u64], count: usize) -> Result<Ints, Memory>
-    requires within { line + line * count ≤ length words.now }
+    requires within { cache_line + cache_line * count ≤ length words.now }
     requires small { (c : ℕ) → c < count → number_at (get_elem? words.now (cell_place c)) < 2 ^ 32 }
-    ensures { IfOk result (λ cells. cells ≡ cell_words_from words.now line count) }
+    ensures { IfOk result (λ cells. cells ≡ cell_words_from words.now cache_line count) }
 {
     let mut cells = Ints::new(alloc);
     for c in 0..count {
@@ -36,7 +36,7 @@ pub(crate) fn rows_of(
     first: usize,
     slots: List<Option<TaskSlot>>,
 ) -> Result<List<TaskRow>, Memory>
-    requires { first + task_words * length slots ≤ length words.now }
+    requires { first + task_span * length slots ≤ length words.now }
     ensures { IfOk result (λ rows. rows ≡ rows_from words.now first (held_in slots) 0 slots) }
 {
     let marks = unjoined(alloc, slots.as_slice())?;
