@@ -22,7 +22,7 @@ const PER_SLOT: u64 = 80;
 const PER_ENTRY: u64 = 8;
 
 /// How much fuel a segment takes, or a task, that is worth a worker.
-const LONG: u64 = 150;
+const LONG: u64 = 400;
 
 /// How many tasks a worker ends on the first floor, and on one after a floor whose tasks were short.
 const FIRST_TASKS: u64 = 64;
