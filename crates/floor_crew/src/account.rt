@@ -45,7 +45,7 @@ pub(crate) struct Account {
     due: u64,
     // How many entries there were when the last floor was laid out.
     entries: u64,
-    // Whether the tasks on the last floor were short, and no segment was long since then.
+    // Whether the tasks on the last floor were short, or none ended there, and no segment was long since then.
     is_fine: bool,
     // How many tasks a worker ends on the next floor.
     tasks: u64,
@@ -112,7 +112,7 @@ impl Account {
             .saturating_mul(PER_MOVE)
             .saturating_add(fuel_taken(lim, &rest.state));
         let (ended, fuel) = count_ended(lim, rest, self.entries as usize);
-        self.is_fine = fuel < ended.saturating_mul(LONG);
+        self.is_fine = fuel < ended.max(1).saturating_mul(LONG);
         if self.is_fine {
             self.tasks = FIRST_TASKS;
             self.room = FIRST_ROOM;
