@@ -4,8 +4,7 @@
 //! entries, and a segment costs more on a floor than at rest. A run whose tasks are short would spend its time on floors. So its
 //! work pays for them: after a floor, another one is laid out only once as much work was done as it costs. And a floor is for few
 //! tasks at first, and has room for few more. If they were short, moves are taken at rest until a long segment comes; if not, the
-//! next floor is for more of them, and larger. One worker has nobody beside it, so for it no floor is worth its cost. All that is
-//! counted here is an estimate, on which no clause rests.
+//! next floor is for more of them, and larger. All that is counted here is an estimate, on which no clause rests.
 
 use seg_journal::End;
 use task_floor::steps::Rest;
@@ -51,13 +50,13 @@ pub(crate) struct Account {
     tasks: u64,
     // How many tasks the next floor has room for, if not more are made.
     room: u32,
-    // Whether there are several workers.
-    is_crew: bool,
+    // Whether all moves are taken at rest.
+    rests: bool,
 }
 
 impl Account {
-    /// The account of a run by so many workers that has not begun. The first floor costs nothing.
-    pub(crate) fn new(workers: u32) -> Self {
+    /// The account of a run that has not begun. The first floor costs nothing.
+    pub(crate) fn new() -> Self {
         Account {
             work: 0,
             due: 0,
@@ -65,14 +64,19 @@ impl Account {
             is_fine: false,
             tasks: FIRST_TASKS,
             room: FIRST_ROOM,
-            is_crew: workers > 1,
+            rests: false,
         }
     }
 
-    /// Whether another floor is worth its cost: there are several workers, the work so far has paid for it, and it is not known
-    /// that tasks are short.
+    /// From now on no floor is worth its cost.
+    pub(crate) fn rest(&mut self) {
+        self.rests = true;
+    }
+
+    /// Whether another floor is worth its cost: not all moves are to be taken at rest, the work so far has paid for it, and it is
+    /// not known that tasks are short.
     pub(crate) fn is_worth_a_floor(&self) -> bool {
-        self.is_crew && !self.is_fine && self.work >= self.due
+        !self.rests && !self.is_fine && self.work >= self.due
     }
 
     /// How many tasks a worker ends on the next floor.

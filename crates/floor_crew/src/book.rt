@@ -47,8 +47,8 @@ pub(crate) struct Book {
 }
 
 impl Book {
-    /// The book of a run by so many workers that has not begun.
-    pub(crate) fn new(alloc: Global, workers: u32) -> Self {
+    /// The book of a run that has not begun.
+    pub(crate) fn new(alloc: Global) -> Self {
         Book {
             alloc,
             ready: VecDeque::new(alloc),
@@ -62,7 +62,7 @@ impl Book {
             running: Vec::new(alloc),
             read: 0,
             moved: false,
-            account: Account::new(workers),
+            account: Account::new(),
         }
     }
 

@@ -81,8 +81,15 @@ impl FloorCrew {
             lim,
             workers,
             run: Some(run),
-            book: Book::new(alloc, workers),
+            book: Book::new(alloc),
         })
+    }
+
+    /// From now on the crew takes all moves at rest.
+    pub(crate) fn rest(&mut self)
+        ensures { self.new ≡ self.old }
+    {
+        self.book.account.rest();
     }
 
     /// Takes the lowest legal move, if the run can go on. If it cannot, the crew stays as it is, and the answer says how

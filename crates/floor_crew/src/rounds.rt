@@ -33,6 +33,10 @@ pub fn run_on_floor<R: Threads + Wait + Sync, G: Gate + Sync>(
     ensures ended { IfOk result (λ run. IsOver run.1) }
 {
     let mut crew = FloorCrew::new(alloc, p, lim, workers)?;
+    // One worker has nobody beside it, so it needs no floor.
+    if workers == 1 {
+        crew.rest();
+    }
     'rounds: for _ in rt.forever() {
         let found = crew.quiet_step(p)?;
         if found.is_end() {
