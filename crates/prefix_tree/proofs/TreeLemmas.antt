@@ -12,7 +12,7 @@ use Rattle.prefix_tree.specs.inner.Tables.{Tables, step_of, path_by, paths_after
 use Rattle.prefix_tree.proofs.StepLemmas.{step_is}
 use Rattle.prefix_tree.proofs.PrefixLemmas.{IsPrefix-snoc, IsPrefix-nil}
 use Rattle.prefix_tree.proofs.SnocLemmas.{nil-snoc, snoc-same}
-use Rattle.prefix_tree.proofs.PathsLemmas.{length-paths_after, path_of-first, path_of-step}
+use Rattle.prefix_tree.proofs.PathsLemmas.{length-paths_after, paths_after-push, path_of-first, path_of-step}
 
 pub length-paths : (tree : Tables) → length (paths tree) ≡ length tree.steps
 length-paths tree = length-paths_after [] tree.steps ∙ zero-add (length tree.steps)
@@ -190,12 +190,10 @@ child-matches tree t nodes is s there None e =
 child-matches tree t nodes is s there (Some n) e =
     subst (λ (ns : List (List Part)). (n < length ns) × (path_of ns n ≡ path_of ns s.from ++ s.part ∷ [])) is (child_path tree t s n (sym e))
 
-absent-by : (tree : Tables) → IsTree tree → (nodes : List (List Part)) → paths tree ≡ nodes → (s : Step) → ¬ IsNode nodes (path_of nodes s.from ++ s.part ∷ []) → (o : Option ℕ) → get step_cmp tree.children s ≡ o → o ≡ None
-absent-by tree t nodes is s new None e = refl
-absent-by tree t nodes is s new (Some n) e =
-    let found = subst (λ (ns : List (List Part)). (n < length ns) × (path_of ns n ≡ path_of ns s.from ++ s.part ∷ [])) is (child_path tree t s n e) in
-    absurd (new (n, found.0, found.1))
-
--- and it has nothing for a step to a path that is no node's
-pub step-absent : (tree : Tables) → IsTree tree → (nodes : List (List Part)) → paths tree ≡ nodes → (s : Step) → ¬ IsNode nodes (path_of nodes s.from ++ s.part ∷ []) → get step_cmp tree.children s ≡ None
-step-absent tree t nodes is s new = absent-by tree t nodes is s new (get step_cmp tree.children s) refl
+-- one step more leads to one path more
+pub paths-added : (tree : Tables) (nodes : List (List Part)) → paths tree ≡ nodes → (s : Step) (steps : List (Option Step)) → steps ≡ tree.steps ++ Some s ∷ []
+    → paths_after [] steps ≡ nodes ++ (path_of nodes s.from ++ s.part ∷ []) ∷ []
+paths-added tree nodes is s steps e =
+    ap (paths_after []) e
+    ∙ paths_after-push [] tree.steps (Some s)
+    ∙ ap (λ (ns : List (List Part)). ns ++ (path_of ns s.from ++ s.part ∷ []) ∷ []) is

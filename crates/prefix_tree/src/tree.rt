@@ -7,6 +7,7 @@ use crate::part::Part;
 use crate::step::Step;
 use std::alloc::Global;
 use std::collections::BTreeMap;
+use std::collections::btree_map::Entry;
 use std::marker::Model;
 use twe_base::Memory;
 
@@ -80,22 +81,6 @@ impl PrefixTree {
         self.children.get(&Step { from, part }).copied()
     }
 
-    /// Adds a node that isn't there, and returns its number.
-    fn add(&mut self, from: u32, part: Part) -> Result<u32, Memory>
-        requires there { from < length self.old }
-        requires new { ¬ IsNode self.old (path_of self.old from ++ part ∷ []) }
-        requires room { length self.old < 2 ^ 32 - 1 }
-        ensures number { IfOk result (λ n. n ≡ length self.old) }
-        ensures nodes { OnOk result (self.new ≡ self.old ++ (path_of self.old from ++ part ∷ []) ∷ []) }
-    {
-        let number = self.steps.len() as u32;
-        let step = Step { from, part };
-        self.steps.reserve(1)?;
-        self.children.insert(step, number)?;
-        self.steps.push(Some(step)).unwrap();
-        Ok(number)
-    }
-
     /// Returns the node right below `from` whose path ends in `part`, and adds it if it isn't there. It fails if memory
     /// runs out, or if 32 bits cannot number the nodes.
     pub fn child_or_new(&mut self, from: u32, part: Part) -> Result<u32, Memory>
@@ -105,12 +90,18 @@ impl PrefixTree {
         ensures grows { OnOk result (Grows self.old self.new (λ path. path ≡ path_of self.old from ++ part ∷ [])) }
         ensures one { OnOk result (length self.new ≤ length self.old + 1) }
     {
-        if let Some(node) = self.child(from, part) {
-            return Ok(node);
+        let step = Step { from, part };
+        match self.children.entry(step)? {
+            Entry::Occupied(entry) => Ok(*entry.get()),
+            Entry::Vacant(entry) => {
+                let number = self.steps.len() as u32;
+                if number == u32::MAX {
+                    return Err(Memory::of_uncountable(self.steps.as_slice()));
+                }
+                self.steps.push(Some(step))?;
+                entry.insert(number);
+                Ok(number)
+            }
         }
-        if self.steps.len() >= u32::MAX as usize {
-            return Err(Memory::of_uncountable(self.steps.as_slice()));
-        }
-        self.add(from, part)
     }
 }
