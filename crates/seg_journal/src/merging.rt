@@ -27,11 +27,20 @@ pub fn merge(alloc: Global, parts: &[JournalPart]) -> Result<(Journal, Ints), Me
 fn empty_slots(alloc: Global, parts: &[JournalPart]) -> Result<List<Option<NumberedEntry>>, Memory>
     ensures { IfOk result (λ slots. length slots ≡ length (all_of parts.now)) }
 {
-    let mut slots = List::new(alloc);
+    let mut slots = List::with_capacity(alloc, entry_count(parts))?;
     for part in parts {
         add_slots(&mut slots, part.len())?;
     }
     Ok(slots)
+}
+
+/// How many entries the parts have together, for which memory is taken at once.
+fn entry_count(parts: &[JournalPart]) -> usize {
+    let mut count = 0usize;
+    for part in parts {
+        count = count.saturating_add(part.len());
+    }
+    count
 }
 
 /// Adds this many slots.
@@ -70,7 +79,7 @@ fn collect(alloc: Global, slots: &[Option<NumberedEntry>]) -> Result<(Journal, I
     ensures journal { IfOk result (λ merged. merged.0 ≡ journal_of (present slots.now)) }
     ensures prints { IfOk result (λ merged. merged.1 ≡ prints_of (present slots.now)) }
 {
-    let mut journal = Journal::new(alloc);
+    let mut journal = Journal::with_capacity(alloc, slots.len())?;
     let mut prints = Ints::new(alloc);
     for slot in slots {
         if let Some(e) = slot {
