@@ -11,6 +11,9 @@ use crate::{Failed, Sink, Source};
 use std::alloc::Global;
 use twe_base::{Bytes, Memory};
 
+/// How many bytes of a buffer are set at a time, before it is read into.
+const ZEROS: usize = 4096;
+
 /// Why a source was not read to its end.
 #[derive(Clone, Copy, Debug, PartialEq, Eq)]
 pub enum ReadFail {
@@ -81,7 +84,13 @@ fn buffer_for(alloc: Global, limit: usize) -> Result<Vec<u8>, Memory>
     ensures { IfOk result (λ buffer. vec_len buffer ≡ limit + 1) }
 {
     let size = Memory::next_count(limit)?;
-    Ok(vec![in alloc; 0; size]?)
+    let mut buffer = Vec::with_capacity(alloc, size)?;
+    let zeros: Vec<u8> = vec![in alloc; 0; ZEROS]?;
+    while buffer.len() < size {
+        let more = zeros.len().min(size - buffer.len());
+        buffer.extend_from_slice(&zeros[..more])?;
+    }
+    Ok(buffer)
 }
 
 /// Fills a buffer from its front until it is full or the source is at its end. Returns how many bytes were read.
