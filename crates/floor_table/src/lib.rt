@@ -4,12 +4,14 @@
 #![tactic(auto)]
 
 mod brand;
+mod kept_slot;
 mod laws;
 pub mod nodes;
 mod quiet_laws;
 mod rule;
 mod view;
 
+pub use kept_slot::{KeptSlot, SlotRoom};
 pub use laws::{
     a_cell_may_be_loaded, a_cell_may_be_stored, a_closed_table_shows_the_state,
     a_phase_may_be_loaded, a_phase_may_be_stored, a_seat_may_be_split, a_table_may_be_opened,

@@ -10,9 +10,9 @@ ghost use Rattle.floor_rule.specs.Rows.{phase_of};
 ghost use Rattle.task_floor.specs.Holding.{HoldsTaskBeside, IsIdleBeside};
 
 use effect_tree::Shape;
-use floor_rule::{Phase, TaskSlot};
-use floor_table::Named;
+use floor_rule::Phase;
 use floor_table::nodes::Planted;
+use floor_table::{KeptSlot, Named};
 use run_gates::FreeGate;
 use seg_journal::{End, Kind, Move};
 use std::alloc::Global;
@@ -69,7 +69,7 @@ fn bar_of_taken<R: Wait, N: Named + Planted>(
     stand: Stand,
     log: EntryLog,
     task: u32,
-    slot: TaskSlot,
+    slot: KeptSlot,
 ) -> Result<Option<(TreeWorker, Bar)>, Memory>
     requires here { stand.table_id ≡ floor.now }
     requires named { (lim ≡ N.lim) × (shape.now ≡ N.nodes) }
@@ -78,7 +78,7 @@ fn bar_of_taken<R: Wait, N: Named + Planted>(
     ensures here { IfOk result (λ found. IfSome found (λ met. met.0.table_id ≡ stand.table_id)) }
 {
     let mut stand = stand;
-    let effects = slot.effects.effects.as_slice();
+    let effects = slot.slot.effects.effects.as_slice();
     if effects.len() > u32::MAX as usize {
         return Ok(None);
     }

@@ -1,7 +1,7 @@
 -- The words and slots of nodes behind those of a floor show the state and the records of its enabled tasks.
-use Rattle.std.proofs.Common.{◌≡◌, ◌+◌, ◌++◌, ◌<◌, ℕ, zero, suc, List, [], ◌∷◌, length, map, take, replicate, Option, None, Some, refl, sym, ap, subst, ◌∙◌, inl, arith, length-append}
+use Rattle.std.proofs.Common.{◌≡◌, ◌+◌, ◌-◌, ◌++◌, ◌<◌, ℕ, zero, suc, List, [], ◌∷◌, drop, length, map, take, replicate, Option, None, Some, refl, sym, ap, subst, ◌∙◌, inl, arith, length-append}
 use Rattle.std.specs.Prelude.{slice_get}
-use Rattle.std.proofs.lemmas.List.{length-map, length-replicate}
+use Rattle.std.proofs.lemmas.List.{drop-replicate, length-map, length-replicate, map-append}
 use mathlib.Core.Option as core
 use lib.ListN.{get_elem?}
 use Rattle.atomic_table.proofs.Lists.{at_map}
@@ -28,6 +28,7 @@ use Rattle.task_floor.specs.steps.Opening.{ShowsRun}
 use Rattle.task_floor.proofs.steps.Laid.{get_past}
 use Rattle.task_floor.specs.Opening.{ShowsTreeRun}
 use Rattle.task_floor.specs.inner.Recording.{HoldRecords}
+use Rattle.task_floor.specs.steps.inner.Laying.{held_slot}
 use Rattle.task_floor.proofs.Sorted.{all_same}
 
 take_front : {A : Type 0} (a b : List A) (n : ℕ) → length a ≡ n → take n (a ++ b) ≡ a
@@ -116,6 +117,13 @@ shows_planted nodes p lim log st records words held contents shows enabled hold 
       enabled = enabled;
       laid = planted nodes p lim log st records words held contents shows.laid hold;
     }))
+
+-- the slots of the tasks that were made, and those of the tasks that were not
+pub task_slots : (rows : List TaskRow) (count : ℕ)
+    → map kinds.Task (map held_slot rows) ++ map kinds.Task (replicate (count - length rows) None) ≡ map kinds.Task (map held_slot rows ++ drop (length rows) (replicate count None))
+task_slots rows count =
+    ap (λ (l : List (Option TaskSlot)). map kinds.Task (map held_slot rows) ++ map kinds.Task l) (sym (drop-replicate (length rows) count None))
+    ∙ sym (map-append kinds.Task (map held_slot rows) (drop (length rows) (replicate count None)))
 
 -- At the start of a run no record stands, since no task is enabled.
 

@@ -9,9 +9,8 @@ ghost use Rattle.task_floor.specs.inner.Emptying.{task_in};
 
 use crate::floor::{Floor, Stand};
 use atomic_table::Closed;
-use floor_rule::TaskSlot;
-use floor_table::Named;
 use floor_table::nodes::{Planted, TreeSlot};
+use floor_table::{KeptSlot, Named};
 use std::alloc::Global;
 use twe_base::{List, Memory};
 
@@ -19,7 +18,7 @@ use twe_base::{List, Memory};
 #[derive(Drop)]
 pub(crate) struct Emptied {
     pub words: List<u64>,
-    pub slots: List<Option<TaskSlot>>,
+    pub slots: List<Option<KeptSlot>>,
 }
 
 impl<N: Named + Planted> Floor<N> {
@@ -62,7 +61,7 @@ fn copy_words(closed: &Closed<TreeSlot, Global>, count: usize, words: &mut Vec<u
 fn take_tasks(
     closed: &mut Closed<TreeSlot, Global>,
     count: usize,
-    slots: &mut Vec<Option<TaskSlot>>,
+    slots: &mut Vec<Option<KeptSlot>>,
 )
     requires full { IsFull closed.old.slots }
     requires within { count ≤ slots_len closed.old.slots }
@@ -78,7 +77,7 @@ fn take_tasks(
 }
 
 /// What lies in the slot of a task; nothing if the slot is none of a task.
-fn task_in(slot: TreeSlot) -> Option<TaskSlot>
+fn task_in(slot: TreeSlot) -> Option<KeptSlot>
     ensures { result ≡ task_in slot }
 {
     match slot {

@@ -16,10 +16,10 @@ ghost use Rattle.task_floor.specs.inner.Bringing.{MayBringBeside};
 use crate::clock::{asked_of, clock_step, entries_of};
 use crate::entry_log::EntryLog;
 use crate::floor::{Floor, Stand};
-use crate::settling::{settle, take_prints};
+use crate::settling::{settle, spawner, take_prints};
 use floor_rule::TaskSlot;
-use floor_table::Named;
 use floor_table::nodes::{DrawAdmission, DrawTreeEntry, Planted};
+use floor_table::{KeptSlot, Named};
 use seg_exec::Stop;
 use seg_journal::{End, Entry, Kind, Limits, Move, NumberedEntry};
 use std::alloc::Global;
@@ -34,7 +34,7 @@ pub struct Committed {
     pub end: End,
     /// What the slot of a spawned child will hold, if the entry made one. The stand has the child's first turn: it has to place
     /// the child's records, and then to give that turn.
-    pub child: Option<TaskSlot>,
+    pub child: Option<KeptSlot>,
 }
 
 impl<N: Named + Planted> Floor<N> {
@@ -72,8 +72,7 @@ impl<N: Named + Planted> Floor<N> {
         let number = entries_of(clock);
         let prints = take_prints(alloc, &mut slot.frame);
         let (end, made) = settle(lim, asked, task, &mut slot.frame, stop);
-        let child = self.bring(stand, asked + 1, made);
-        log.push_within(NumberedEntry {
+        let entry = NumberedEntry {
             number,
             entry: Entry {
                 mv: Move {
@@ -83,7 +82,9 @@ impl<N: Named + Planted> Floor<N> {
                 end,
             },
             prints,
-        });
+        };
+        let kept = log.push_keeping(entry, made);
+        let child = self.bring(stand, asked + 1, kept);
         Committed { number, end, child }
     }
 
@@ -151,7 +152,7 @@ impl<N: Named + Planted> Floor<N> {
 
     /// Gives the first turn of a task that was made, if one was and it was not spawned. Returns what the slot of a spawned one
     /// will hold.
-    fn bring(&self, stand: &mut Stand, number: u32, made: Option<TaskSlot>) -> Option<TaskSlot>
+    fn bring(&self, stand: &mut Stand, number: u32, made: Option<KeptSlot>) -> Option<KeptSlot>
         requires here { stand.old.table_id ≡ self.now }
         requires live { stand.old.me.0.floor.kind ≢ Spent }
         requires may { (drawn : TreeSeat) × (row : Option TaskRow) × MayBringBeside N.lim stand.old.me number made drawn row }
@@ -166,7 +167,7 @@ impl<N: Named + Planted> Floor<N> {
     }
 
     /// The same of a task that was made.
-    fn bring_made(&self, stand: &mut Stand, number: u32, slot: TaskSlot) -> Option<TaskSlot>
+    fn bring_made(&self, stand: &mut Stand, number: u32, slot: KeptSlot) -> Option<KeptSlot>
         requires here { stand.old.table_id ≡ self.now }
         requires live { stand.old.me.0.floor.kind ≢ Spent }
         requires may { (drawn : TreeSeat) × (row : TaskRow)
@@ -176,7 +177,7 @@ impl<N: Named + Planted> Floor<N> {
             → (stand.new.me ≡ with_made drawn number (Some row)) × (result ≡ left_to_place (Some row)) }
         ensures same { (stand.new.table_id ≡ stand.old.table_id) × (stand.new.id ≡ stand.old.id) }
     {
-        match slot.parent {
+        match spawner(&slot) {
             Some(_) => Some(slot),
             None => {
                 self.give_first(stand, number, slot);

@@ -1,7 +1,7 @@
-//! The words and the slots of a floor that starts from a state.
-ghost use Rattle.std.specs.Prelude.{◌≡◌, ◌<◌, ◌≤◌, ◌-◌, ◌^◌, ◌++◌, ℕ, List, None, length, map, replicate, drop, IfOk, OnOk};
+//! The words of a floor that starts from a state, and what the slot of a task holds then.
+ghost use Rattle.std.specs.Prelude.{◌≡◌, ◌<◌, ◌≤◌, ◌-◌, ◌^◌, ◌++◌, ℕ, List, length, IfOk, OnOk};
 ghost use Rattle.floor_rule.specs.Rows.{slot_of};
-ghost use Rattle.task_floor.specs.steps.inner.Laying.{AreWordsOf, head_words, held_slot, in_lines, made_words, unmade_words};
+ghost use Rattle.task_floor.specs.steps.inner.Laying.{AreWordsOf, head_words, in_lines, made_words, unmade_words};
 
 use crate::clock::clock_of;
 use crate::row_phase::phase_of;
@@ -72,44 +72,8 @@ fn add_unmade(words: &mut List<u64>, count: u32) -> Result<(), Memory>
     Ok(())
 }
 
-/// What lies in the slots, if so many tasks may be made.
-pub(crate) fn slots_of(
-    alloc: Global,
-    tasks: List<TaskRow>,
-    count: u32,
-) -> Result<List<Option<TaskSlot>>, Memory>
-    requires { length tasks ≤ count }
-    ensures { IfOk result (λ slots. slots ≡ map held_slot tasks ++ drop (length tasks) (replicate count None)) }
-{
-    let mut slots = empty_slots(alloc, count)?;
-    fill_slots(&mut slots, tasks);
-    Ok(slots)
-}
-
-/// This many empty slots.
-fn empty_slots(alloc: Global, count: u32) -> Result<List<Option<TaskSlot>>, Memory>
-    ensures { IfOk result (λ slots. slots ≡ replicate count None) }
-{
-    let mut slots = List::with_capacity(alloc, count as usize)?;
-    for i in 0..count {
-        slots.push(None)?;
-    }
-    Ok(slots)
-}
-
-/// Puts what the slot of each task holds into its slot. The slots behind them stay.
-fn fill_slots(slots: &mut List<Option<TaskSlot>>, tasks: List<TaskRow>)
-    requires { length tasks ≤ length slots.old }
-    ensures { slots.new ≡ map held_slot tasks ++ drop (length tasks) slots.old }
-{
-    let mut tasks = tasks;
-    while let Some(row) = tasks.pop() {
-        slots.set(tasks.len(), Some(slot_of(row)));
-    }
-}
-
 /// What the slot of a task with this row holds.
-fn slot_of(row: TaskRow) -> TaskSlot
+pub(crate) fn slot_of(row: TaskRow) -> TaskSlot
     ensures { result ≡ slot_of row }
 {
     let TaskRow {

@@ -8,17 +8,16 @@ ghost use Rattle.floor_table.specs.nodes.FloorSeats.{HasTaskSlots};
 ghost use Rattle.task_floor.specs.Leaving.{HasLeftTask, MayFinishTask, MayGiveNew, MayGoFrom, MayParkTask};
 
 use crate::floor::{Floor, Stand};
-use crate::row_phase::enabled_phase;
-use crate::settling::new_phase;
-use floor_rule::{Phase, TaskSlot};
-use floor_table::Named;
+use crate::settling::{new_phase, parked_phase};
+use floor_rule::Phase;
 use floor_table::nodes::Planted;
+use floor_table::{KeptSlot, Named};
 
 impl<N: Named + Planted> Floor<N> {
     /// Leaves an enabled task whose slot is the latest that the stand has out, with what its last entry left: stores its phase,
     /// which says whether it runs or waits, fills its slot, and gives its turn. All children of the task are placed, and the
     /// stand does nothing in the tree.
-    pub fn park(&self, stand: &mut Stand, task: u32, slot: TaskSlot)
+    pub fn park(&self, stand: &mut Stand, task: u32, slot: KeptSlot)
         requires here { stand.old.table_id ≡ self.now }
         requires live { stand.old.me.0.floor.kind ≢ Spent }
         requires slots { HasTaskSlots N.lim.tasks stand.old.me.1 }
@@ -28,14 +27,14 @@ impl<N: Named + Planted> Floor<N> {
             → HasLeftTask stand.old.me task turn rest stand.new.me }
         ensures same { (stand.new.table_id ≡ stand.old.table_id) × (stand.new.id ≡ stand.old.id) }
     {
-        let phase = enabled_phase(slot.frame.next);
+        let phase = parked_phase(&slot);
         self.leave_with_phase(stand, task, slot, phase);
     }
 
     /// Leaves a task that has ended, with a value or with a fault, in the same way. `phase` says how it has ended. The stand
     /// knows that no record of the task is left at the place of an effect. If the task is done, the stand knows its value from
     /// then on.
-    pub fn finish(&self, stand: &mut Stand, task: u32, slot: TaskSlot, phase: Phase)
+    pub fn finish(&self, stand: &mut Stand, task: u32, slot: KeptSlot, phase: Phase)
         requires here { stand.old.table_id ≡ self.now }
         requires live { stand.old.me.0.floor.kind ≢ Spent }
         requires slots { HasTaskSlots N.lim.tasks stand.old.me.1 }
@@ -52,7 +51,7 @@ impl<N: Named + Planted> Floor<N> {
 
     /// Gives the first turn of a task that was made, whose slot is the latest that the stand has out: stores its first phase,
     /// fills its slot, and gives the turn. If the task was spawned, the stand has placed a record for each of its effects.
-    pub fn give_first(&self, stand: &mut Stand, task: u32, slot: TaskSlot)
+    pub fn give_first(&self, stand: &mut Stand, task: u32, slot: KeptSlot)
         requires here { stand.old.table_id ≡ self.now }
         requires live { stand.old.me.0.floor.kind ≢ Spent }
         requires slots { HasTaskSlots N.lim.tasks stand.old.me.1 }
@@ -67,7 +66,7 @@ impl<N: Named + Planted> Floor<N> {
     }
 
     /// Leaves a task with the phase of its row.
-    fn leave_with_phase(&self, stand: &mut Stand, task: u32, slot: TaskSlot, phase: Phase)
+    fn leave_with_phase(&self, stand: &mut Stand, task: u32, slot: KeptSlot, phase: Phase)
         requires here { stand.old.table_id ≡ self.now }
         requires live { stand.old.me.0.floor.kind ≢ Spent }
         requires slots { HasTaskSlots N.lim.tasks stand.old.me.1 }

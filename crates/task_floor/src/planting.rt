@@ -1,11 +1,14 @@
-//! The words and the slots of nodes, behind those of a floor that starts.
-ghost use Rattle.std.specs.Prelude.{◌≡◌, ◌++◌, map, replicate, IfOk, OnOk};
+//! The words of nodes, behind those of a floor that starts, and the slots of such a floor.
+ghost use Rattle.std.specs.Prelude.{◌≡◌, ◌≤◌, ◌-◌, ◌++◌, None, length, map, replicate, IfOk, OnOk};
 ghost use Rattle.floor_table.specs.declared.nodes.slot.TreeSlot.TheVariants as kinds;
+ghost use Rattle.task_floor.specs.steps.inner.Laying.{held_slot};
 
-use floor_rule::TaskSlot;
+use crate::laying::slot_of;
+use floor_table::KeptSlot;
 use floor_table::nodes::{NodeContent, TreeSlot};
 use std::alloc::Global;
 use twe_base::{List, Memory};
+use twe_machine::TaskRow;
 
 /// Adds so many words that are 0: the decider words of tasks that decide at no node, and the lock words of nodes that nobody has
 /// locked.
@@ -18,26 +21,42 @@ pub(crate) fn add_zeros(words: &mut List<u64>, count: usize) -> Result<(), Memor
     Ok(())
 }
 
-/// The slots of tasks, and behind them those of nodes.
+/// The slots of tasks, if so many may be made, and behind them those of nodes.
 pub(crate) fn tree_slots(
     alloc: Global,
-    tasks: List<Option<TaskSlot>>,
+    tasks: List<TaskRow>,
+    count: u32,
     contents: List<NodeContent>,
 ) -> Result<List<TreeSlot>, Memory>
-    ensures { IfOk result (λ slots. slots ≡ map kinds.Task tasks ++ map kinds.Node contents) }
+    requires { length tasks ≤ count }
+    ensures { IfOk result (λ slots. slots ≡ (map kinds.Task (map held_slot tasks)
+        ++ map kinds.Task (replicate (count - length tasks) None)) ++ map kinds.Node contents) }
 {
-    let mut slots = List::new(alloc);
-    add_tasks(&mut slots, tasks)?;
+    let unmade = count - tasks.len() as u32;
+    let mut slots = List::with_capacity(alloc, count as usize + contents.len())?;
+    add_made(alloc, &mut slots, tasks)?;
+    add_empty(&mut slots, unmade)?;
     add_nodes(&mut slots, contents)?;
     Ok(slots)
 }
 
-/// Adds the slots of tasks.
-fn add_tasks(slots: &mut List<TreeSlot>, tasks: List<Option<TaskSlot>>) -> Result<(), Memory>
-    ensures { OnOk result (slots.new ≡ slots.old ++ map kinds.Task tasks) }
+/// Adds the slots of tasks that were made.
+fn add_made(alloc: Global, slots: &mut List<TreeSlot>, tasks: List<TaskRow>) -> Result<(), Memory>
+    ensures { OnOk result (slots.new ≡ slots.old ++ map kinds.Task (map held_slot tasks)) }
 {
-    for task in tasks.into_vec() {
-        slots.push(TreeSlot::Task(task))?;
+    for row in tasks.into_vec() {
+        let slot = KeptSlot::new(alloc, slot_of(row))?;
+        slots.push(TreeSlot::Task(Some(slot)))?;
+    }
+    Ok(())
+}
+
+/// Adds the slots of so many tasks that are not made.
+fn add_empty(slots: &mut List<TreeSlot>, count: u32) -> Result<(), Memory>
+    ensures { OnOk result (slots.new ≡ slots.old ++ map kinds.Task (replicate count None)) }
+{
+    for i in 0..count {
+        slots.push(TreeSlot::Task(None))?;
     }
     Ok(())
 }

@@ -11,6 +11,7 @@ use crate::floor::{CACHE_LINE, TASK_SPAN};
 use crate::unjoined::unjoined;
 use crate::words::value_of;
 use floor_rule::TaskSlot;
+use floor_table::KeptSlot;
 use seg_journal::{End, Entry};
 use std::alloc::Global;
 use twe_base::{Ints, List, Memory};
@@ -34,14 +35,14 @@ pub(crate) fn rows_of(
     alloc: Global,
     words: &[u64],
     first: usize,
-    slots: List<Option<TaskSlot>>,
+    slots: List<Option<KeptSlot>>,
 ) -> Result<List<TaskRow>, Memory>
     requires { first + task_span * length slots ≤ length words.now }
     ensures { IfOk result (λ rows. rows ≡ rows_from words.now first (held_in slots) 0 slots) }
 {
     let marks = unjoined(alloc, slots.as_slice())?;
     let mut slots = slots;
-    let mut rows = List::new(alloc);
+    let mut rows = List::with_capacity(alloc, count_held(slots.as_slice()))?;
     for t in 0..slots.len() {
         let slot = slots.item_mut(t).take();
         let word = words[first + TASK_SPAN * t + 1];
@@ -50,12 +51,17 @@ pub(crate) fn rows_of(
     Ok(rows)
 }
 
+/// How many slots are not empty: so many rows there will be.
+fn count_held(slots: &[Option<KeptSlot>]) -> usize {
+    slots.iter().filter(|slot| slot.is_some()).count()
+}
+
 /// Adds the row of a task with this slot and this phase word, if the slot is not empty. Some task has it as an unjoined child,
 /// or none.
 fn add_row(
     alloc: Global,
     rows: &mut List<TaskRow>,
-    slot: Option<TaskSlot>,
+    slot: Option<KeptSlot>,
     word: u64,
     unjoined: bool,
 ) -> Result<(), Memory>
@@ -63,7 +69,8 @@ fn add_row(
 {
     match slot {
         None => Ok(()),
-        Some(slot) => {
+        Some(kept) => {
+            let slot = kept.into_slot();
             let joined = is_joined(slot.parent, unjoined);
             let row = row_of(alloc, slot, word, joined)?;
             rows.push(row)

@@ -12,16 +12,16 @@ ghost use Rattle.task_floor.specs.Resuming.{KnowsEnough, KnowsMoreBeside, MovesO
 
 use crate::floor::{Floor, Stand};
 use crate::steps::Readiness;
-use floor_rule::{Phase, TaskSlot};
-use floor_table::Named;
+use floor_rule::Phase;
 use floor_table::nodes::Planted;
+use floor_table::{KeptSlot, Named};
 use seg_exec::Frame;
 
 /// The value that lies in the slot of a done task.
-fn value_in(slot: &TaskSlot) -> i32
+fn value_in(slot: &KeptSlot) -> i32
     ensures { result ≡ slot.now.frame.value }
 {
-    slot.frame.value
+    slot.slot.frame.value
 }
 
 impl<N: Named + Planted> Floor<N> {

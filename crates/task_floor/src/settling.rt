@@ -1,6 +1,7 @@
 //! What an entry does to the frame of its task, how it ends, and what the slot of a task that it makes will hold.
 ghost use Rattle.std.specs.Prelude.{◌≡◌, ◌<◌, ◌+◌, ◌^◌, option_map};
 ghost use Rattle.seg_exec.specs.Segment.{HasRoomToSpawn};
+ghost use Rattle.twe_machine.specs.declared.state.TaskStatus.TheVariants.{Enabled};
 ghost use Rattle.twe_machine.specs.Moves.{frame_without_prints, new_row, status_at_start, stopped_frame};
 ghost use Rattle.twe_machine.specs.Rows.{row_awaited};
 ghost use Rattle.floor_rule.specs.Rows.{phase_at, slot_of};
@@ -11,6 +12,7 @@ ghost use Rattle.task_floor.specs.steps.inner.Bringing.{frame_after};
 use crate::row_phase::enabled_phase;
 use effect_sets::Summary;
 use floor_rule::{Phase, TaskSlot};
+use floor_table::KeptSlot;
 use seg_exec::{Frame, Next, Stop};
 use seg_journal::{End, FaultKind, Limits};
 use std::alloc::Global;
@@ -58,13 +60,27 @@ fn new_slot(
 }
 
 /// The phase of a new task: one with a parent runs at once, and another one waits for its admission.
-pub(crate) fn new_phase(slot: &TaskSlot) -> Phase
+pub(crate) fn new_phase(slot: &KeptSlot) -> Phase
     ensures { result ≡ phase_at (status_at_start slot.now.parent) (row_awaited slot.now.frame.next) }
 {
-    match slot.parent {
+    match slot.slot.parent {
         None => Phase::Made,
-        Some(_) => enabled_phase(slot.frame.next),
+        Some(_) => enabled_phase(slot.slot.frame.next),
     }
+}
+
+/// The phase of an enabled task that is left.
+pub(crate) fn parked_phase(slot: &KeptSlot) -> Phase
+    ensures { result ≡ phase_at Enabled (row_awaited slot.now.frame.next) }
+{
+    enabled_phase(slot.slot.frame.next)
+}
+
+/// The task that spawned a new one, if it was spawned.
+pub(crate) fn spawner(slot: &KeptSlot) -> Option<u32>
+    ensures { result ≡ slot.now.parent }
+{
+    slot.slot.parent
 }
 
 /// Settles the frame of a task whose segment has stopped, if `asked` tasks were asked for before. Returns how its entry ends

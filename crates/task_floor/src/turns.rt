@@ -13,9 +13,8 @@ ghost use Rattle.task_floor.specs.Turns.{FoundBusy, HasTakenTask, MayGiveTask};
 
 use crate::floor::{Floor, Stand};
 use crate::steps::Busy;
-use floor_rule::TaskSlot;
-use floor_table::Named;
 use floor_table::nodes::{GiveTreeTurn, Planted, TreeSlot, TryTreeTurn};
+use floor_table::{KeptSlot, Named};
 
 /// Whom a turn word names that is not free.
 fn found_busy(word: u64) -> Busy
@@ -27,7 +26,7 @@ fn found_busy(word: u64) -> Busy
 }
 
 /// What lies in the slot of a task.
-pub(crate) fn task_in(slot: TreeSlot) -> Option<TaskSlot>
+pub(crate) fn task_in(slot: TreeSlot) -> Option<KeptSlot>
     requires { (held : Option TaskSlot) × (slot ≡ Task held) }
     ensures { slot ≡ Task result }
 {
@@ -43,7 +42,7 @@ impl<N: Named + Planted> Floor<N> {
     /// the stand knows then that no record of it stands. `Busy` if the turn word was not free; then the stand knows what it found
     /// there, and is as it was otherwise. If the stand is the only one, it finds no turn of a made task busy but those that
     /// it has. The stand holds no node.
-    pub fn take_turn(&self, stand: &mut Stand, worker: u32, task: u32) -> Result<TaskSlot, Busy>
+    pub fn take_turn(&self, stand: &mut Stand, worker: u32, task: u32) -> Result<KeptSlot, Busy>
         requires here { stand.old.table_id ≡ self.now }
         requires live { stand.old.me.0.floor.kind ≢ Spent }
         requires slots { HasTaskSlots N.lim.tasks stand.old.me.1 }
@@ -76,7 +75,7 @@ impl<N: Named + Planted> Floor<N> {
     /// Gives the turn of a task whose slot is the latest that the stand has out. What its last entry left goes into the slot. A
     /// stand that gives the turn of a done task knows the task's value from then on. Of records of the task it knows nothing any
     /// more. The stand holds no node.
-    pub fn give_turn(&self, stand: &mut Stand, task: u32, slot: TaskSlot)
+    pub fn give_turn(&self, stand: &mut Stand, task: u32, slot: KeptSlot)
         requires here { stand.old.table_id ≡ self.now }
         requires live { stand.old.me.0.floor.kind ≢ Spent }
         requires slots { HasTaskSlots N.lim.tasks stand.old.me.1 }

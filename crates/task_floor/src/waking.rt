@@ -9,7 +9,7 @@ ghost use Rattle.floor_table.specs.nodes.Holds.{first_tree_view};
 ghost use Rattle.task_floor.specs.steps.Waking.{log_of};
 
 use crate::floor::{Floor, Stand};
-use crate::laying::{slots_of, words_of};
+use crate::laying::words_of;
 use crate::numbering::log_of;
 use crate::planting::{add_zeros, tree_slots};
 use crate::recording::records_of;
@@ -78,8 +78,7 @@ impl<N: Named + Planted> Floor<N> {
             asked: _,
             first_fault: _,
         } = state;
-        let tasks = slots_of(alloc, tasks, count)?;
-        let slots = tree_slots(alloc, tasks, contents)?;
+        let slots = tree_slots(alloc, tasks, count, contents)?;
         let part = log_of(alloc, journal.as_slice(), prints)?;
         let start = TreeStart { part, records };
         let (floor, stand) = Self::open(alloc, cell_count, count, words.as_slice(), slots, &start)?;

@@ -1,7 +1,7 @@
 //! What lies in a slot of the table.
 
+use crate::kept_slot::KeptSlot;
 use crate::nodes::content::NodeContent;
-use floor_rule::TaskSlot;
 
 /// What a worker goes down the tree for.
 #[derive(Clone, Copy, Debug, PartialEq, Eq)]
@@ -31,7 +31,7 @@ pub struct Errand {
 #[derive(Debug, Drop)]
 pub enum TreeSlot {
     /// In the slot of a task: what lies in it on a table of the floor.
-    Task(Option<TaskSlot>),
+    Task(Option<KeptSlot>),
     /// In the slot of a node: the records that stand at the node.
     Node(NodeContent),
     /// In no slot: what a worker announces.

@@ -12,7 +12,7 @@ ghost use Rattle.tree_admit.specs.serving.Working.{HasTriedToAdmit, SameTreeStan
 ghost use Rattle.tree_admit.specs.serving.inner.InHand.{HasTakenSince};
 
 use crate::serving::admission::Admission;
-use crate::serving::worker::{Holding, TreeWorker};
+use crate::serving::worker::{Holding, TreeWorker, effects_in};
 use crate::serving::workshop::Workshop;
 use crate::{Admittance, try_admit};
 use floor_rule::Phase;
@@ -109,7 +109,7 @@ impl<'a, N: Named + Planted> Workshop<'a, N> {
             slot,
         } = holding;
         log.reserve()?;
-        let effects = slot.effects.effects.as_slice();
+        let effects = effects_in(&slot);
         let footing = self.footing(number, 1);
         let admittance = try_admit(
             rt, self.alloc, self.floor, self.shape, &mut stand, footing, task, effects,

@@ -2,9 +2,10 @@
 ghost use Rattle.std.specs.Prelude.{◌≡◌, ℕ};
 ghost use Rattle.task_floor.specs.Holding.{IsIdleBeside};
 
-use floor_rule::TaskSlot;
+use effect_sets::Effect;
+use floor_table::KeptSlot;
 use std::marker::Model;
-use task_floor::{EntryLog, Stand};
+use task_floor::{EntryLog, Stand, Tally};
 
 /// A worker with nothing in hand: it has no turn, no node and no open segment. Clauses see its stand.
 #[derive(Drop)]
@@ -46,6 +47,11 @@ impl TreeWorker {
         } = self;
         (stand, log)
     }
+
+    /// How many tasks the worker has ended, and how much fuel they took.
+    pub fn tally(&self) -> Tally {
+        self.log.tally()
+    }
 }
 
 /// A worker with a task in hand, and what lies in that task's slot.
@@ -55,5 +61,12 @@ pub(crate) struct Holding {
     pub stand: Stand,
     pub log: EntryLog,
     pub task: u32,
-    pub slot: TaskSlot,
+    pub slot: KeptSlot,
+}
+
+/// The effects of the task whose slot this is.
+pub(crate) fn effects_in(slot: &KeptSlot) -> &[Effect]
+    ensures { result.now ≡ slot.now.effects.effects }
+{
+    slot.slot.effects.effects.as_slice()
 }

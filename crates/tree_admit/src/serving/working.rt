@@ -13,12 +13,12 @@ ghost use Rattle.tree_admit.specs.serving.Alone.{ServesIfAlone};
 ghost use Rattle.tree_admit.specs.serving.Working.{HasServedBeside, SameTreeStand};
 ghost use Rattle.tree_admit.specs.serving.inner.InHand.{HasEndedIn, HasTakenSince, HoldsMadeBeside, HoldsRanBeside};
 
-use crate::serving::worker::{Holding, TreeWorker};
+use crate::serving::worker::{Holding, TreeWorker, effects_in};
 use crate::serving::workshop::Workshop;
 use crate::{place_spawned, release};
-use floor_rule::{Phase, TaskSlot};
-use floor_table::Named;
+use floor_rule::Phase;
 use floor_table::nodes::Planted;
+use floor_table::{KeptSlot, Named};
 use run_gates::Gate;
 use seg_exec::Stop;
 use seg_journal::End;
@@ -95,7 +95,7 @@ impl<'a, N: Named + Planted> Workshop<'a, N> {
         } = holding;
         let readiness = self
             .floor
-            .make_ready(&mut stand, number, task, &mut slot.frame);
+            .make_ready(&mut stand, number, task, &mut slot.slot.frame);
         let held = Holding {
             number,
             stand,
@@ -138,7 +138,7 @@ impl<'a, N: Named + Planted> Workshop<'a, N> {
         log.reserve()?;
         let (stand, stop) = self
             .floor
-            .run(self.alloc, self.p, stand, &mut slot.frame, gate)?;
+            .run(self.alloc, self.p, stand, &mut slot.slot.frame, gate)?;
         let ran = Holding {
             number,
             stand,
@@ -178,7 +178,13 @@ impl<'a, N: Named + Planted> Workshop<'a, N> {
             end,
             child,
         } = self.floor.commit(
-            self.alloc, self.lim, &mut stand, &mut log, task, &mut slot, stop,
+            self.alloc,
+            self.lim,
+            &mut stand,
+            &mut log,
+            task,
+            &mut slot.slot,
+            stop,
         );
         let drawn = Holding {
             number,
@@ -198,7 +204,7 @@ impl<'a, N: Named + Planted> Workshop<'a, N> {
         rt: &R,
         holding: Holding,
         end: End,
-        child: Option<TaskSlot>,
+        child: Option<KeptSlot>,
     ) -> Result<Holding, Memory>
         requires here { holding.stand.table_id ≡ self.now }
         requires task { holding.task < N.lim.tasks }
@@ -218,7 +224,7 @@ impl<'a, N: Named + Planted> Workshop<'a, N> {
         let End::Made { child } = end else {
             unreachable!()
         };
-        let effects = slot.effects.effects.as_slice();
+        let effects = effects_in(&slot);
         let footing = self.footing(holding.number, 2);
         place_spawned(
             rt,
@@ -267,11 +273,12 @@ impl<'a, N: Named + Planted> Workshop<'a, N> {
         let Holding {
             number,
             mut stand,
-            log,
+            mut log,
             task,
             slot,
         } = holding;
-        let effects = slot.effects.effects.as_slice();
+        log.count_end(self.lim.fuel.saturating_sub(slot.slot.frame.fuel));
+        let effects = effects_in(&slot);
         let footing = self.footing(number, 1);
         release(
             rt, self.floor, self.shape, &mut stand, footing, task, effects,

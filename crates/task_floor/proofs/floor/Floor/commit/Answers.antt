@@ -44,9 +44,9 @@ bring-child-requires-clause-may g c =
     let slot = c.args.slot.now in
     let clock = c.draw-clock.result in
     let asked_is = c.asked_of-asked.ensures.value in
-    let held = c.settle-end.result.1 in
+    let held = c.push_keeping-kept.result in
     let holds : held ≡ option_map slot_of (child_row lim (asked_of_clock clock) t stop) =
-    c.settle-end.ensures.child ∙ ap (λ (l : Bounds). option_map slot_of (child_row l c.asked_of-asked.result t stop)) c.requires.lim
+    c.push_keeping-kept.ensures.kept ∙ c.settle-end.ensures.child ∙ ap (λ (l : Bounds). option_map slot_of (child_row l c.asked_of-asked.result t stop)) c.requires.lim
     ∙ ap (λ (n : ℕ). option_map slot_of (child_row lim n t stop)) asked_is in
     let seat = drawn p lim me mid clock t may.0 slot stop may.1 c.requires.slots c.draw-clock.ensures.drew in
     let made = row p lim me mid clock t may.0 slot stop may.1 c.requires.slots c.draw-clock.ensures.drew in
@@ -66,9 +66,9 @@ returns-clause-committed g c turn may =
     let drew = c.draw-clock.ensures.drew in
     let has = c.requires.slots in
     let asked_is = c.asked_of-asked.ensures.value in
-    let held = c.settle-end.result.1 in
+    let held = c.push_keeping-kept.result in
     let holds : held ≡ option_map slot_of (child_row lim (asked_of_clock clock) t stop) =
-    c.settle-end.ensures.child ∙ ap (λ (l : Bounds). option_map slot_of (child_row l c.asked_of-asked.result t stop)) c.requires.lim
+    c.push_keeping-kept.ensures.kept ∙ c.settle-end.ensures.child ∙ ap (λ (l : Bounds). option_map slot_of (child_row l c.asked_of-asked.result t stop)) c.requires.lim
     ∙ ap (λ (n : ℕ). option_map slot_of (child_row lim n t stop)) asked_is in
     let ends : c.settle-end.result.0 ≡ end_after lim (asked_of_clock clock) stop =
     c.settle-end.ensures.end ∙ ap (λ (l : Bounds). end_after l c.asked_of-asked.result stop) c.requires.lim ∙ ap (λ (n : ℕ). end_after lim n stop) asked_is in
@@ -92,7 +92,7 @@ returns-clause-committed g c turn may =
       unplaced = λ any is. drew.1 (below any is);
       child_is = brought.1;
       seat = brought.0 ∙ ap (λ (n : ℕ). with_made seat (n + 1) made) asked_is;
-      log = c.push_within.ensures
+      log = c.push_keeping-kept.ensures.entry
           ∙ ap (λ (e : NumberedEntry). with_entry e c.args.log.now)
           (entry_is lim clock t c.entries_of-number.result frame stop c.settle-end.result.0 c.take_prints-prints.result c.entries_of-number.ensures ends c.take_prints-prints.ensures.prints);
     }
@@ -112,9 +112,9 @@ returns-clause-slots g c =
     let drew = c.draw-clock.ensures.drew in
     let has = c.requires.slots in
     let asked_is = c.asked_of-asked.ensures.value in
-    let held = c.settle-end.result.1 in
+    let held = c.push_keeping-kept.result in
     let holds : held ≡ option_map slot_of (child_row lim (asked_of_clock clock) t stop) =
-    c.settle-end.ensures.child ∙ ap (λ (l : Bounds). option_map slot_of (child_row l c.asked_of-asked.result t stop)) c.requires.lim
+    c.push_keeping-kept.ensures.kept ∙ c.settle-end.ensures.child ∙ ap (λ (l : Bounds). option_map slot_of (child_row l c.asked_of-asked.result t stop)) c.requires.lim
     ∙ ap (λ (n : ℕ). option_map slot_of (child_row lim n t stop)) asked_is in
     let seat = drawn p lim me mid clock t turn slot stop may.1 has drew in
     let made = row p lim me mid clock t turn slot stop may.1 has drew in

@@ -1,4 +1,4 @@
-use Rattle.std.proofs.Common.{◌≡◌, ◌+◌, ◌++◌, ℕ, List, length, replicate, ◌∙◌, ap, subst, sym, arith}
+use Rattle.std.proofs.Common.{◌≡◌, ◌+◌, ◌++◌, ℕ, List, None, drop, length, map, replicate, ◌∙◌, ap, refl, subst, sym, arith}
 use Rattle.region_paths.specs.declared.elements.Elem.{Elem}
 use Rattle.prefix_tree.specs.Nodes.{IsTreeOfPaths}
 use Rattle.seg_journal.specs.declared.journal.Entry.{Entry}
@@ -6,10 +6,13 @@ use Rattle.twe_base.specs.Limits.{Bounds, IsWithin}
 use Rattle.admission_laws.specs.admission_core.States.{IsAmong, Record}
 use Rattle.floor_rule.specs.nodes.Fitting.{IsDistinct}
 use Rattle.floor_rule.specs.nodes.Starts.{AreOfEnabled}
+use Rattle.floor_table.specs.declared.nodes.slot.TreeSlot.{TreeSlot}
+use Rattle.floor_table.specs.declared.nodes.slot.TreeSlot.TheVariants as kinds
 use Rattle.task_floor.specs.steps.Waking.{log_of}
 use Rattle.task_floor.proofs.steps.Woken.{cells_many, clock_few, shows_run, tasks_few}
 use Rattle.task_floor.specs.inner.Recording.{HoldRecords}
-use Rattle.task_floor.proofs.Planted.{records_within, shows_planted}
+use Rattle.task_floor.specs.steps.inner.Laying.{held_slot}
+use Rattle.task_floor.proofs.Planted.{records_within, shows_planted, task_slots}
 use Rattle.task_floor.proofs.floor.Floor.wake.Goals as goal
 
 pub records_of-requires : goal.records_of-requires
@@ -51,8 +54,8 @@ words_of-requires-clause-tasks g c =
     let same = ap (λ (b : Bounds). b.tasks) (c.lim.view_is ∙ c.requires.named.1) in
     omega (arith, few, same)
 
-pub slots_of-requires : goal.slots_of-requires
-slots_of-requires g c =
+pub tree_slots-requires : goal.tree_slots-requires
+tree_slots-requires g c =
     let within = subst (λ (b : Bounds). IsWithin b.fuel b.tasks) (c.lim.view_is ∙ c.requires.named.1) c.lim.invariant in
     let few = tasks_few g.N.Named.prog g.N.Named.lim c.requires.accepted.0 within c.args.rest.journal c.args.rest.state c.requires.run in
     let same = ap (λ (b : Bounds). b.tasks) (c.lim.view_is ∙ c.requires.named.1) in
@@ -78,16 +81,18 @@ open-requires-clause-shows g c =
     let within = subst (λ (b : Bounds). IsWithin b.fuel b.tasks) (c.lim.view_is ∙ c.requires.named.1) c.lim.invariant in
     let same = ap (λ (b : Bounds). b.tasks) (c.lim.view_is ∙ c.requires.named.1) in
     let words = c.in_ok-words.ensures in
+    let held = map held_slot st.tasks ++ drop (length st.tasks) (replicate c.lim.inside.tasks None) in
     let many = c.nodes-nodes.ensures.count ∙ ap (λ (l : List (List Elem)). length l) c.requires.named.0 in
     let enabled = subst (λ (l : List (List Elem)). AreOfEnabled l c.args.rest.state c.in_ok-records.records) c.requires.named.0 c.in_ok-records.ensures in
     let hold = subst (λ (n : ℕ). HoldRecords n c.in_ok-records.records c.in_ok-contents.contents) many
     (subst (λ (l : List Record). HoldRecords c.nodes-nodes.result l c.in_ok-contents.contents) c.as_slice.ensures c.in_ok-contents.ensures) in
     let shown =
-    shows_run p lim c.requires.accepted.0 within journal st c.requires.run c.in_ok-part.part c.in_ok-words.words words.0 c.in_ok-tasks.tasks c.len.result c.lim.inside.tasks
-    (c.in_ok-part.ensures ∙ ap (λ (l : List Entry). log_of l c.args.rest.state.prints) c.as_slice-2.ensures) c.len.ensures same words.1 words.2 c.in_ok-tasks.ensures in
+    shows_run p lim c.requires.accepted.0 within journal st c.requires.run c.in_ok-part.part c.in_ok-words.words words.0 held c.len.result c.lim.inside.tasks
+    (c.in_ok-part.ensures ∙ ap (λ (l : List Entry). log_of l c.args.rest.state.prints) c.as_slice-2.ensures) c.len.ensures same words.1 words.2 refl in
+    let slots = c.in_ok-slots.ensures ∙ ap (λ (l : List TreeSlot). l ++ map kinds.Node c.in_ok-contents.contents) (task_slots st.tasks c.lim.inside.tasks) in
     let count : c.lim.inside.tasks + c.nodes-nodes.result ≡ lim.tasks + length nodes = omega (arith, same, many) in
     let all = c.as_slice-3.ensures ∙ (c.in_ok-add_zeros.ensures ∙ ap (λ (n : ℕ). c.in_ok-words.words ++ replicate n 0) count) in (
       st,
-      shows_planted nodes p lim c.in_ok-part.part st c.in_ok-records.records c.in_ok-words.words c.in_ok-tasks.tasks c.in_ok-contents.contents shown enabled hold
-          c.as_slice-3.result.now c.in_ok-slots.slots all c.in_ok-slots.ensures,
+      shows_planted nodes p lim c.in_ok-part.part st c.in_ok-records.records c.in_ok-words.words held c.in_ok-contents.contents shown enabled hold
+          c.as_slice-3.result.now c.in_ok-slots.slots all slots,
     )

@@ -87,7 +87,7 @@ returns-in-Held-clause-tried g c = λ before since.
     let keeps = c.in_ok-admittance.ensures.keeps in
     let logs = ap (λ (l : Log). l.entries) c.in_ok-reserve.ensures.ok in
     let barred = c.in_ok-admittance.ensures.held c.in-Held.bar (ap (λ (x : Admittance). Ok x) c.in-Held.is) in
-    let was = subst (λ (l : List Effect). WasBarredFor g.N.Named.prog g.N.Named.lim h.stand.me.0 b.0 h.task l c.in-Held.bar) (c.as_slice-effects.ensures ∙ ap (λ (s : TaskSlot). s.effects.effects) held.slot_is) barred.1 in
+    let was = subst (λ (l : List Effect). WasBarredFor g.N.Named.prog g.N.Named.lim h.stand.me.0 b.0 h.task l c.in-Held.bar) (c.effects_in-effects.ensures ∙ ap (λ (s : TaskSlot). s.effects.effects) held.slot_is) barred.1 in
     let turns = grown_then h.stand.me.0.floor.turns b.0.floor.turns c.give_back.result.me.0.floor.turns
     (grown_is h.stand.me.0.floor.turns b.0.floor.turns (ap (λ (v : View). v.turns) keeps.floor)) c.give_back.ensures.turns in
     record {
