@@ -1,10 +1,10 @@
--- The ground of a round may be shared by threads: its floor, its program, its shape, its mark that the round is to end and its
--- number of tasks are, and so are the waiters that were found.
+-- The ground of a round may be shared by threads: its floor, its program, its shape, its mark that the round is to end and the
+-- number of the task that is to be one of the last are, and so are the waiters that were found.
 use denote.Param.Send.{IsSync, recorded_sync, sendable, shr_sync, struct_sync, view_sync}
 use denote.Ref.{NamedLft}
 use denote.RattleType.{RattleType}
 use denote.Struct.Declared.{shape}
-use denote.Struct.Field.{u32-field, u64-field}
+use denote.Struct.Field.{u32-field}
 use Rattle.std.proofs.alloc.Global.TheSendSync as global
 use Rattle.std.proofs.marker.PhantomData.TheSendSync as phantom
 use Rattle.std.proofs.sync.atomic.AtomicBool.TheSendSync as flag
@@ -31,9 +31,6 @@ setup_sync ℓ =
       (shr_sync _ _ Prog.the_row prog_sync, (limits.the_sync, (shr_sync _ _ Shape.the_row tree.the_sync, tt))),
     ))
 
-number_sync : IsSync u64-field.row
-number_sync = search sendable
-
 place_sync : IsSync u32-field.row
 place_sync = search sendable
 
@@ -44,5 +41,5 @@ ground_sync ℓ N F n t f =
     (recorded_sync (inside.the_field ℓ N F n t f).row _ _ (inside.the_type ℓ N F n t f).to_one
     (struct_sync (shape (inside.the_type ℓ N F n t f)) (
       shr_sync _ _ (Setup.the_row ℓ) (setup_sync ℓ),
-      (shr_sync _ _ (Floor.the_row N n t) (floor.the_sync N n t), (flag.the_field_sync, (number_sync, (place_sync, (waiters.the_field_sync, (phantom.the_field_sync F, tt)))))),
+      (shr_sync _ _ (Floor.the_row N n t) (floor.the_sync N n t), (flag.the_field_sync, (place_sync, (waiters.the_field_sync, (phantom.the_field_sync F, tt))))),
     )))

@@ -2,9 +2,10 @@
 //!
 //! To lay out a floor and to take the run back costs a pass over all tasks that it has room for, over all nodes and over all
 //! entries, and a segment costs more on a floor than at rest. A run whose tasks are short would spend its time on floors. So its
-//! work pays for them: after a floor, another one is laid out only once as much work was done as it costs. And a floor is for few
-//! tasks at first, and has room for few more. If they were short, moves are taken at rest until a long segment comes; if not, the
-//! next floor is for more of them, and larger. All that is counted here is an estimate, on which no clause rests.
+//! work pays for them: after a floor, another one is laid out only once as much work was done as it costs. And a worker leaves
+//! the floor once it finds that tasks are short; then moves are taken at rest until a long segment comes. A floor has room for
+//! more tasks than are made, and the first one for few if few are made; if they were long, the next one is larger. All that is
+//! counted here is an estimate, on which no clause rests.
 
 use seg_journal::End;
 use task_floor::steps::Rest;
@@ -15,19 +16,22 @@ use twe_machine::State;
 const PER_MOVE: u64 = 80;
 
 /// What a floor costs for each task that it has room for and for each node, in units of fuel.
-const PER_SLOT: u64 = 80;
+const PER_SLOT: u64 = 16;
 
 /// What a floor costs for each entry of the journal, in units of fuel.
 const PER_ENTRY: u64 = 8;
 
 /// How much fuel a segment takes, or a task, that is worth a worker.
-const LONG: u64 = 400;
+const LONG: u64 = 200;
 
-/// How many tasks a worker ends on the first floor, and on one after a floor whose tasks were short.
-const FIRST_TASKS: u64 = 64;
+/// How many of the last entries on a floor say whether its tasks were short.
+const LAST_ENTRIES: usize = 1024;
 
-/// How many times as many it ends on the next floor if they were long.
-const MORE_TASKS: u64 = 64;
+/// For how many times as many tasks as are made a floor has room, up to a number of tasks.
+const ROOM_FOR_EACH: u32 = 64;
+
+/// That number.
+const MOST_FOR_EACH: u32 = 16_384;
 
 /// How many tasks the first floor has room for, and one after a floor whose tasks were short, if not more are made.
 const FIRST_ROOM: u32 = 1024;
@@ -46,12 +50,8 @@ pub(crate) struct Account {
     entries: u64,
     // Whether the tasks on the last floor were short, or none ended there, and no segment was long since then.
     is_fine: bool,
-    // How many tasks a worker ends on the next floor.
-    tasks: u64,
     // How many tasks the next floor has room for, if not more are made.
     room: u32,
-    // Whether all moves are taken at rest.
-    rests: bool,
 }
 
 impl Account {
@@ -62,26 +62,13 @@ impl Account {
             due: 0,
             entries: 0,
             is_fine: false,
-            tasks: FIRST_TASKS,
             room: FIRST_ROOM,
-            rests: false,
         }
     }
 
-    /// From now on no floor is worth its cost.
-    pub(crate) fn rest(&mut self) {
-        self.rests = true;
-    }
-
-    /// Whether another floor is worth its cost: not all moves are to be taken at rest, the work so far has paid for it, and it is
-    /// not known that tasks are short.
+    /// Whether another floor is worth its cost: the work so far has paid for it, and it is not known that tasks are short.
     pub(crate) fn is_worth_a_floor(&self) -> bool {
-        !self.rests && !self.is_fine && self.work >= self.due
-    }
-
-    /// How many tasks a worker ends on the next floor.
-    pub(crate) fn tasks(&self) -> u64 {
-        self.tasks
+        !self.is_fine && self.work >= self.due
     }
 
     /// Counts a move at rest that took so much fuel.
@@ -92,11 +79,13 @@ impl Account {
         }
     }
 
-    /// How many tasks the next floor has room for: twice those that are made and more, and at most as many as may be made.
+    /// How many tasks the next floor has room for: many times those that are made if these are few, or else twice those and
+    /// more, and at most as many as may be made.
     pub(crate) fn room(&self, lim: Limits, st: &State) -> u32 {
         let made = st.links.task_count();
-        let room = made.saturating_mul(2).saturating_add(FIRST_ROOM);
-        room.max(self.room).min(lim.tasks)
+        let many = made.saturating_mul(ROOM_FOR_EACH).min(MOST_FOR_EACH);
+        let twice = made.saturating_mul(2).saturating_add(FIRST_ROOM);
+        many.max(twice).max(self.room).min(lim.tasks)
     }
 
     /// A floor with room for so many tasks and with so many nodes is laid out for a run.
@@ -115,16 +104,20 @@ impl Account {
         self.work = entries
             .saturating_mul(PER_MOVE)
             .saturating_add(fuel_taken(lim, &rest.state));
-        let (ended, fuel) = count_ended(lim, rest, self.entries as usize);
-        self.is_fine = fuel < ended.max(1).saturating_mul(LONG);
+        let last = rest.journal.len().saturating_sub(LAST_ENTRIES);
+        let (ended, fuel) = count_ended(lim, rest, last.max(self.entries as usize));
+        self.is_fine = are_short(ended.max(1), fuel);
         if self.is_fine {
-            self.tasks = FIRST_TASKS;
             self.room = FIRST_ROOM;
         } else {
-            self.tasks = self.tasks.saturating_mul(MORE_TASKS);
             self.room = self.room.saturating_mul(MORE_ROOM);
         }
     }
+}
+
+/// Whether so many tasks are short, if they took so much fuel together.
+pub(crate) fn are_short(tasks: u64, fuel: u64) -> bool {
+    fuel < tasks.saturating_mul(LONG)
 }
 
 /// How many tasks have ended in the entries from this one on, and how much fuel they have taken.

@@ -1,7 +1,7 @@
 //! Moves of a run at rest, up to the point at which tasks may run beside each other.
 //!
-//! A task that may run alone runs its segments at rest, and so does one whose next segment ends at once. All others wait for a
-//! round, unless the work since the last one has not paid for another.
+//! A task that may run alone runs its segments at rest, and so does one whose next segment is short, unless many others wait for
+//! the workers. All others wait for a round, unless the work since the last one has not paid for another.
 ghost use Rattle.std.specs.Prelude.{◌≡◌, ◌∷◌, ◌++◌, [], OnOk};
 ghost use Rattle.twe_machine.specs.Legal.{MayMove};
 ghost use Rattle.twe_machine.specs.Runs.{entry_of};
@@ -12,7 +12,7 @@ use crate::at_rest::RunAtRest;
 use crate::book::Book;
 use crate::brief::is_brief;
 use crate::looking::{Found, look};
-use crate::setup::Setup;
+use crate::rest_setup::RestSetup;
 use seg_journal::{Kind, Move};
 use twe_base::Memory;
 use twe_machine::State;
@@ -20,7 +20,7 @@ use twe_program::Prog;
 
 /// Takes moves until two tasks may run beside each other, or none may run. Returns whether two may.
 pub(crate) fn go_on_alone(
-    setup: &Setup<'_>,
+    setup: &RestSetup<'_>,
     run: &mut RunAtRest,
     book: &mut Book,
 ) -> Result<bool, Memory>
@@ -41,7 +41,7 @@ pub(crate) fn go_on_alone(
 
 /// Runs the next segment that is run alone, if there is one. Returns whether there may be another, perhaps after a look at the
 /// tasks that are to be looked at.
-fn go_on_once(setup: &Setup<'_>, run: &mut RunAtRest, book: &mut Book) -> Result<bool, Memory>
+fn go_on_once(setup: &RestSetup<'_>, run: &mut RunAtRest, book: &mut Book) -> Result<bool, Memory>
     requires { IsSound setup.now.p.now setup.now.lim run.old }
     ensures { OnOk result (HasGoneOn setup.now.p.now setup.now.lim run.old.rest.journal run.new) }
 {
@@ -53,7 +53,7 @@ fn go_on_once(setup: &Setup<'_>, run: &mut RunAtRest, book: &mut Book) -> Result
 }
 
 /// Looks at the tasks that are to be looked at, and admits each that may be admitted.
-fn look_at_ready(setup: &Setup<'_>, run: &mut RunAtRest, book: &mut Book) -> Result<(), Memory>
+fn look_at_ready(setup: &RestSetup<'_>, run: &mut RunAtRest, book: &mut Book) -> Result<(), Memory>
     requires { IsSound setup.now.p.now setup.now.lim run.old }
     ensures { OnOk result (HasGoneOn setup.now.p.now setup.now.lim run.old.rest.journal run.new) }
 {
@@ -67,7 +67,12 @@ fn look_at_ready(setup: &Setup<'_>, run: &mut RunAtRest, book: &mut Book) -> Res
 }
 
 /// Looks at a task, and admits it if it may be admitted.
-fn look_at(setup: &Setup<'_>, run: &mut RunAtRest, book: &mut Book, task: u32) -> Result<(), Memory>
+fn look_at(
+    setup: &RestSetup<'_>,
+    run: &mut RunAtRest,
+    book: &mut Book,
+    task: u32,
+) -> Result<(), Memory>
     requires { IsSound setup.now.p.now setup.now.lim run.old }
     ensures { OnOk result (HasGoneOn setup.now.p.now setup.now.lim run.old.rest.journal run.new) }
 {
@@ -77,7 +82,7 @@ fn look_at(setup: &Setup<'_>, run: &mut RunAtRest, book: &mut Book, task: u32) -
             take(setup, run, book, Move { kind, task })
         }
         Found::Held { by } => book.hold(task, by),
-        Found::Runs => book.add_running(task, ends_at_once(setup.p, &run.rest.state, task)),
+        Found::Runs => book.add_running(task, is_next_brief(setup.p, &run.rest.state, task)),
         Found::Waits { on, next } => book.wait(task, on, next),
         Found::Over => Ok(()),
     }
@@ -85,7 +90,7 @@ fn look_at(setup: &Setup<'_>, run: &mut RunAtRest, book: &mut Book, task: u32) -
 
 /// Runs the next segment of a task, if it may run.
 fn run_next(
-    setup: &Setup<'_>,
+    setup: &RestSetup<'_>,
     run: &mut RunAtRest,
     book: &mut Book,
     task: u32,
@@ -102,7 +107,7 @@ fn run_next(
 
 /// Takes a legal move, and notes it in the book.
 pub(crate) fn take(
-    setup: &Setup<'_>,
+    setup: &RestSetup<'_>,
     run: &mut RunAtRest,
     book: &mut Book,
     mv: Move,
@@ -120,8 +125,8 @@ pub(crate) fn take(
     book.read(run.rest.journal.as_slice())
 }
 
-/// Whether the next segment of a task is known to end at once.
-fn ends_at_once(p: &Prog, st: &State, task: u32) -> bool {
+/// Whether the next segment of a task is known to be short.
+fn is_next_brief(p: &Prog, st: &State, task: u32) -> bool {
     match st.tasks.get(task as usize) {
         Some(row) => is_brief(p, &row.frame),
         None => false,

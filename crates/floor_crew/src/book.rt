@@ -9,18 +9,23 @@ use std::alloc::Global;
 use std::collections::{BTreeMap, VecDeque};
 use std::mem;
 use twe_base::Memory;
+use twe_machine::{State, TaskStatus};
 
 /// How many tasks that one bar held are found held again before the others of them wait for the next bar unseen.
 const MOST_MISSES: u32 = 8;
 
 /// How many tasks are found that may run before a round begins. The others are looked at in it.
-const MOST_RUNNING: usize = 2;
+const FEW: usize = 2;
+
+/// How many are found before a round begins while tasks run at rest whose segments are short. If so many tasks wait, or some have
+/// waited while so many short segments were run, the next short one waits for the round with them.
+const MANY: usize = 256;
 
 /// Which tasks are to be looked at, and which were found to wait, to be held back, or to be able to run.
 #[derive(Drop)]
 pub(crate) struct Book {
     alloc: Global,
-    // Tasks to be looked at one by one.
+    // Tasks to be looked at one by one. What has changed is at the front.
     ready: VecDeque<u32>,
     // Tasks that one bar held, which has ended. They are looked at after those.
     group: VecDeque<u32>,
@@ -34,10 +39,14 @@ pub(crate) struct Book {
     waiters: BTreeMap<u32, u32>,
     // Beside each task those that were found held by it.
     held: BTreeMap<u32, VecDeque<u32>>,
-    // Tasks that may run, and whose next segment ends at once.
-    brief: Vec<u32>,
+    // A task that may run, and whose next segment is short. It is run before another task is looked at.
+    brief: Option<u32>,
     // The other tasks that may run.
     running: Vec<u32>,
+    // How many of these are found before a round begins.
+    enough: usize,
+    // How many short segments were run while one of these waited, since another one ran.
+    passed: usize,
     // How many entries of the journal were read.
     read: usize,
     // Whether an entry was read since all tasks that were held back were looked at.
@@ -58,8 +67,10 @@ impl Book {
             freed: Vec::new(alloc),
             waiters: BTreeMap::new(alloc),
             held: BTreeMap::new(alloc),
-            brief: Vec::new(alloc),
+            brief: None,
             running: Vec::new(alloc),
+            enough: FEW,
+            passed: 0,
             read: 0,
             moved: false,
             account: Account::new(),
@@ -79,23 +90,20 @@ impl Book {
     }
 
     /// Notes an entry. Its task is to be looked at again, and so is one that it has made. If its task has ended, so is the one
-    /// that waited for it, and so are those that it held. A task that was admitted is looked at before all others, so that no
-    /// more tasks are admitted than are found to run.
+    /// that waited for it, and so are those that it held. All these are looked at before others, so that tasks that have begun
+    /// end before others begin, and no more tasks are admitted than are found to run. A task that was made comes before its
+    /// maker: if it is short, it runs before the maker makes another.
     fn note(&mut self, entry: Entry) -> Result<(), Memory> {
         match entry.end {
             End::Done { .. } => self.end(entry.mv.task),
             End::Fault { .. } => self.end(entry.mv.task),
             End::Made { child } => {
-                self.ready.push_back(child)?;
-                self.ready.push_back(entry.mv.task)?;
-                Ok(())
-            }
-            End::Admitted => {
                 self.ready.push_front(entry.mv.task)?;
+                self.ready.push_front(child)?;
                 Ok(())
             }
             _ => {
-                self.ready.push_back(entry.mv.task)?;
+                self.ready.push_front(entry.mv.task)?;
                 Ok(())
             }
         }
@@ -104,7 +112,7 @@ impl Book {
     // A task has ended.
     fn end(&mut self, task: u32) -> Result<(), Memory> {
         if let Some(waiter) = self.waiters.remove(&task) {
-            self.ready.push_back(waiter)?;
+            self.ready.push_front(waiter)?;
         }
         if let Some(group) = self.held.remove(&task) {
             self.freed.push(group)?;
@@ -112,9 +120,10 @@ impl Book {
         Ok(())
     }
 
-    /// The next task to be looked at. `None` if there is none, or if so many tasks may run that a round can begin.
+    /// The next task to be looked at. `None` if there is none, if a task is to be run first, or if so many tasks may run that a
+    /// round can begin.
     pub(crate) fn next(&mut self) -> Option<u32> {
-        if self.running.len() >= MOST_RUNNING {
+        if self.brief.is_some() || self.running.len() >= self.enough {
             return None;
         }
         self.grouped = false;
@@ -153,25 +162,41 @@ impl Book {
         Ok(())
     }
 
-    /// Keeps a task that may run. `brief` says that its next segment ends at once.
+    /// Keeps a task that may run. `brief` says that its next segment is short.
     pub(crate) fn add_running(&mut self, task: u32, brief: bool) -> Result<(), Memory> {
-        if brief {
-            self.brief.push(task)?;
+        if brief && !self.are_many_waiting() {
+            self.brief = Some(task);
         } else {
             self.running.push(task)?;
         }
         Ok(())
     }
 
-    /// The task whose next segment is run while the others lie still: one whose segment ends at once, or else one that may run,
-    /// if it is the only one or no floor is worth its cost.
+    /// Whether many tasks wait that may run, or some have waited for long.
+    fn are_many_waiting(&self) -> bool {
+        self.running.len() >= MANY || self.passed >= MANY
+    }
+
+    /// The task whose next segment is run while the others lie still: one whose segment is short, or else one that may run, if it
+    /// is the only one or no floor is worth its cost.
     pub(crate) fn next_alone(&mut self) -> Option<u32> {
-        match self.brief.pop() {
-            Some(task) => Some(task),
-            None if self.running.len() == 1 || !self.account.is_worth_a_floor() => self
-                .running
-                .pop(),
-            None => None,
+        if let Some(task) = self.brief.take() {
+            self.pass_over_running();
+            return Some(task);
+        }
+        self.enough = FEW;
+        if self.running.len() != 1 && self.account.is_worth_a_floor() {
+            return None;
+        }
+        self.passed = 0;
+        self.running.pop()
+    }
+
+    // A short segment is run. More tasks that may run can be found meanwhile.
+    fn pass_over_running(&mut self) {
+        self.enough = MANY;
+        if !self.running.is_empty() {
+            self.passed = self.passed.saturating_add(1);
         }
     }
 
@@ -202,13 +227,45 @@ impl Book {
         Ok(())
     }
 
-    /// The tasks that may run are about to run in a round. They are to be looked at after it.
-    pub(crate) fn begin_round(&mut self) -> Result<(), Memory> {
-        for task in self.running.iter() {
-            self.ready.push_back(*task)?;
+    /// After a round, of which only the state is looked at: all tasks that have not ended are to be looked at, in the order of
+    /// their numbers, and nothing else is known. The journal has so many entries.
+    pub(crate) fn begin_anew(&mut self, state: &State, entries: usize) -> Result<(), Memory> {
+        self.forget();
+        self.read = entries;
+        for task in 0..state.links.task_count() {
+            if let Some(row) = state.tasks.get(task as usize)
+                && !has_ended(row.status)
+            {
+                self.ready.push_back(task)?;
+            }
         }
-        self.running.clear();
         Ok(())
+    }
+
+    // Nothing is known of any task.
+    fn forget(&mut self) {
+        let alloc = self.alloc;
+        self.ready.clear();
+        self.group.clear();
+        self.misses = 0;
+        self.grouped = false;
+        self.freed.clear();
+        self.waiters = BTreeMap::new(alloc);
+        self.held = BTreeMap::new(alloc);
+        self.brief = None;
+        self.running.clear();
+        self.enough = FEW;
+        self.passed = 0;
+        self.moved = false;
+    }
+}
+
+/// Whether a task with this status has ended.
+fn has_ended(status: TaskStatus) -> bool {
+    match status {
+        TaskStatus::Done => true,
+        TaskStatus::Faulted => true,
+        _ => false,
     }
 }
 

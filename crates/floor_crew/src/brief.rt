@@ -1,81 +1,74 @@
-//! Whether the next segment of a task ends at once, so that nothing is lost if the others lie still meanwhile.
+//! Whether the next segment of a task is short, so that little is lost if the others lie still meanwhile.
 
-use seg_exec::{Frame, OpenBody, Position};
+use crate::ahead::{LookAhead, Way};
+use seg_exec::{Frame, Position};
 use twe_program::{Arms, Block, Prog, Stmt, StmtKind};
 
-/// Whether the next segment of a task with this frame ends at once: the task has begun, and its next statement makes a task or
-/// waits for one, or its body has ended. If not, nothing is known of the segment.
+/// Whether the next segment of a task with this frame is known to be short: it takes no longer than its text, which is short, or
+/// the body has ended. If not, nothing is known of the segment.
 pub(crate) fn is_brief(p: &Prog, frame: &Frame) -> bool {
     let Some(body) = &frame.body else {
         return true;
     };
     match p.tasks.get(frame.decl as usize) {
-        Some(decl) => has_begun(body) && stops_at_once(statements(&decl.body.block), body),
+        Some(decl) => is_short(&decl.body.block, body.open_blocks.as_slice()),
         None => false,
     }
 }
 
-/// Whether some statement of a body has begun.
-fn has_begun(body: &OpenBody) -> bool {
-    match body.open_blocks.get(0) {
-        Some(position) => position.after > 0,
-        None => false,
+/// Whether the next segment of a body with these open blocks is known to be short. What is left of the innermost block comes
+/// first, and then what is left of those around it, as far as the segment may go on.
+fn is_short(body: &Block, positions: &[Position]) -> bool {
+    let mut ahead = LookAhead::new();
+    for depth in (0..positions.len()).rev() {
+        match way_at(&mut ahead, body, positions, depth) {
+            Way::Ends => return true,
+            Way::GoesOn => {}
+            Way::Unknown => return false,
+        }
     }
+    true
 }
 
-/// Whether nothing but a task operation or the end of the body comes next.
-fn stops_at_once(stmts: &[Stmt], body: &OpenBody) -> bool {
-    let mut block = stmts;
-    // Whether this is so once the block has ended.
-    let mut beyond = true;
-    // Whether this is so.
-    let mut stops = true;
-    let positions = body.open_blocks.as_slice();
-    for i in 0..positions.len() {
-        let position = positions[i];
-        stops = match block.get(position.after) {
-            Some(stmt) => is_operation(stmt),
-            None => beyond,
-        };
-        let inner = block_number(positions, i + 1);
-        let stmt = last_begun(block, position);
-        beyond = stops && !is_loop(stmt);
-        block = block_in(stmt, inner);
-    }
-    stops
+/// The way through what is left of the open block at this depth, once the blocks in it have ended.
+fn way_at(ahead: &mut LookAhead, body: &Block, positions: &[Position], depth: usize) -> Way {
+    let Some(block) = open_block(body, positions, depth) else {
+        return Way::Unknown;
+    };
+    ahead.through_rest(block, first_left(block, positions, depth))
 }
 
-/// The number of the block at this place; 0 if there is none.
-fn block_number(positions: &[Position], at: usize) -> usize {
-    match positions.get(at) {
-        Some(position) => position.block,
+/// The open block at this depth, which is 0 for the body itself.
+fn open_block<'a>(body: &'a Block, positions: &[Position], depth: usize) -> Option<&'a Block> {
+    let mut block = body;
+    for outer in 0..depth {
+        let stmt = last_begun(block, positions.get(outer)?.after)?;
+        block = block_in(stmt, positions.get(outer + 1)?.block)?;
+    }
+    Some(block)
+}
+
+/// The index of the first statement that is left of the open block at this depth. If a loop in it is open, that is the loop: its
+/// condition comes next.
+fn first_left(block: &Block, positions: &[Position], depth: usize) -> usize {
+    let after = match positions.get(depth) {
+        Some(position) => position.after,
         None => 0,
+    };
+    let is_innermost = depth.saturating_add(1) >= positions.len();
+    match last_begun(block, after) {
+        Some(stmt) if !is_innermost && is_loop(stmt) => after.saturating_sub(1),
+        _ => after,
     }
 }
 
-/// The last statement of a block that has begun.
-fn last_begun(stmts: &[Stmt], position: Position) -> Option<&Stmt> {
-    if position.after == 0 {
-        None
-    } else {
-        stmts.get(position.after - 1)
-    }
-}
-
-/// Whether a statement makes a task or waits for one.
-fn is_operation(stmt: &Stmt) -> bool {
-    match &stmt.kind {
-        StmtKind::Make { .. } => true,
-        StmtKind::Wait { .. } => true,
-        _ => false,
-    }
+/// The last of the statements of a block of which so many have begun.
+fn last_begun(block: &Block, begun: usize) -> Option<&Stmt> {
+    block.stmts.get(begun.checked_sub(1)?)
 }
 
 /// Whether a statement is a loop.
-fn is_loop(stmt: Option<&Stmt>) -> bool {
-    let Some(stmt) = stmt else {
-        return false;
-    };
+fn is_loop(stmt: &Stmt) -> bool {
     match &stmt.kind {
         StmtKind::While { .. } => true,
         _ => false,
@@ -83,30 +76,19 @@ fn is_loop(stmt: Option<&Stmt>) -> bool {
 }
 
 /// The block of this number in a statement.
-fn block_in(stmt: Option<&Stmt>, block: usize) -> &[Stmt] {
-    let Some(stmt) = stmt else {
-        return &[];
-    };
+fn block_in(stmt: &Stmt, block: usize) -> Option<&Block> {
     match &stmt.kind {
-        StmtKind::Block(body) => statements(body),
-        StmtKind::While { body, .. } => statements(body),
+        StmtKind::Block(body) => Some(body),
+        StmtKind::While { body, .. } => Some(body),
         StmtKind::If(arms) => branch(arms, block),
-        _ => &[],
+        _ => None,
     }
 }
 
 /// The branch of this number of an `if`.
-fn branch(arms: &Arms, block: usize) -> &[Stmt] {
+fn branch(arms: &Arms, block: usize) -> Option<&Block> {
     match arms.arms.get(block) {
-        Some(arm) => statements(&arm.body),
-        None => match &arms.last {
-            Some(body) => statements(body),
-            None => &[],
-        },
+        Some(arm) => Some(&arm.body),
+        None => arms.last.as_ref(),
     }
-}
-
-/// The statements of a block.
-fn statements(block: &Block) -> &[Stmt] {
-    block.stmts.as_slice()
 }

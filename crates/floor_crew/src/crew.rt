@@ -12,7 +12,7 @@ use crate::alone::take;
 use crate::at_rest::RunAtRest;
 use crate::book::Book;
 use crate::going_on::go_on;
-use crate::setup::Setup;
+use crate::rest_setup::RestSetup;
 use effect_tree::Shape;
 use flat_sched::stuck_cycle;
 use run_gates::Gate;
@@ -32,8 +32,8 @@ use twe_rounds::{Quietly, lost};
 pub struct FloorCrew {
     alloc: Global,
     prog: Snapshot<Prog>,
-    // The shape of the program's tree.
-    shape: Shape,
+    // The shape of the program's tree. It is built before the first round.
+    shape: Option<Shape>,
     lim: Limits,
     workers: u32,
     run: Option<RunAtRest>,
@@ -41,7 +41,7 @@ pub struct FloorCrew {
 }
 
 impl Model for FloorCrew {
-    ghost use Rattle.std.specs.Prelude.{◌≤◌};
+    ghost use Rattle.std.specs.Prelude.{◌≤◌, IfSome};
     ghost use Rattle.isolation_laws.specs.soundness.KeepsEffects.{KeepsEffects};
     ghost use Rattle.twe_rounds.specs.Crews.{CrewRun};
     ghost use Rattle.floor_crew.specs.inner.Keeping.{RunIsKept, IsShapeOf, journal_of};
@@ -62,7 +62,7 @@ impl Model for FloorCrew {
     } };
 
     ghost invariant = { λ crew. (1 ≤ crew.workers) × (crew.workers ≤ 64) × KeepsEffects crew.prog.value
-        × RunIsKept crew.prog.value crew.lim crew.run × IsShapeOf crew.prog.value crew.shape };
+        × RunIsKept crew.prog.value crew.lim crew.run × IfSome crew.shape (IsShapeOf crew.prog.value) };
 }
 
 impl FloorCrew {
@@ -77,19 +77,12 @@ impl FloorCrew {
         Ok(FloorCrew {
             alloc,
             prog: Snapshot::of(p),
-            shape: Shape::build(alloc, p)?,
+            shape: None,
             lim,
             workers,
             run: Some(run),
             book: Book::new(alloc),
         })
-    }
-
-    /// From now on the crew takes all moves at rest.
-    pub(crate) fn rest(&mut self)
-        ensures { self.new ≡ self.old }
-    {
-        self.book.account.rest();
     }
 
     /// Takes the lowest legal move, if the run can go on. If it cannot, the crew stays as it is, and the answer says how
@@ -100,11 +93,10 @@ impl FloorCrew {
         ensures err { OnErr result (self.new ≡ lost self.old) }
     {
         let mut run = self.run.take().ok_or(lost())?;
-        let setup = Setup {
+        let setup = RestSetup {
             alloc: self.alloc,
             p,
             lim: self.lim,
-            shape: &self.shape,
         };
         let found = step_quietly(&setup, &mut run, &mut self.book)?;
         self.run = Some(run);
@@ -126,13 +118,20 @@ impl FloorCrew {
         ensures err { OnErr result (self.new ≡ lost self.old) }
     {
         let run = self.run.take().ok_or(lost())?;
-        let setup = Setup {
+        let setup = RestSetup {
             alloc: self.alloc,
             p,
             lim: self.lim,
-            shape: &self.shape,
         };
-        let after = go_on(rt, &setup, self.workers, run, &mut self.book, gate)?;
+        let after = go_on(
+            rt,
+            &setup,
+            &mut self.shape,
+            self.workers,
+            run,
+            &mut self.book,
+            gate,
+        )?;
         self.run = Some(after);
         Ok(())
     }
@@ -152,7 +151,11 @@ impl FloorCrew {
 }
 
 /// A quiet step in a run.
-fn step_quietly(setup: &Setup<'_>, run: &mut RunAtRest, book: &mut Book) -> Result<Quietly, Memory>
+fn step_quietly(
+    setup: &RestSetup<'_>,
+    run: &mut RunAtRest,
+    book: &mut Book,
+) -> Result<Quietly, Memory>
     requires { IsSound setup.now.p.now setup.now.lim run.old }
     ensures sound { OnOk result (IsSound setup.now.p.now setup.now.lim run.new) }
     ensures steps { IfOk result (Steps setup.now.p.now setup.now.lim run.old run.new) }

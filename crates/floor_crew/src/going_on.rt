@@ -1,28 +1,34 @@
 //! How a crew goes on from a run at rest: moves at rest and rounds in turn.
-ghost use Rattle.std.specs.Prelude.{◌≡◌, ◌≤◌, ◌<◌, length, IfOk};
+ghost use Rattle.std.specs.Prelude.{◌≡◌, ◌≤◌, ◌<◌, length, IfOk, IfSome};
 ghost use mathlib.Core.List.{IsPrefix};
 ghost use Rattle.isolation_laws.specs.soundness.KeepsEffects.{KeepsEffects};
 ghost use Rattle.twe_machine.specs.declared.ending.Outcome.TheVariants.{Unfinished};
 ghost use Rattle.twe_machine.specs.Runs.{IsOutcome};
 ghost use Rattle.floor_crew.specs.inner.GoingOn.{HasGoneOn, IsSound};
+ghost use Rattle.floor_crew.specs.inner.Keeping.{IsShapeOf};
 
 use crate::alone::{go_on_alone, take};
 use crate::at_rest::RunAtRest;
 use crate::book::Book;
 use crate::quiet::next_move;
+use crate::rest_setup::RestSetup;
 use crate::room::round_within;
 use crate::setup::Setup;
+use effect_tree::Shape;
 use run_gates::Gate;
+use std::alloc::Global;
 use std::sync::Wait;
 use std::thread::Threads;
 use twe_base::Memory;
+use twe_program::Prog;
 
 /// Takes the lowest legal move, if the run can go on, and then moves at rest, and a round whenever two tasks may run beside each
 /// other, until no task may go on. Returns the run after that.
 #[tactic(auto, using(twe_rounds::proofs::Beginnings::prefix_self))]
 pub(crate) fn go_on<R: Threads + Wait + Sync, G: Gate + Sync>(
     rt: &R,
-    setup: &Setup<'_>,
+    setup: &RestSetup<'_>,
+    shape: &mut Option<Shape>,
     workers: u32,
     run: RunAtRest,
     book: &mut Book,
@@ -31,6 +37,8 @@ pub(crate) fn go_on<R: Threads + Wait + Sync, G: Gate + Sync>(
     requires some { 1 ≤ workers }
     requires accepted { KeepsEffects setup.now.p.now }
     requires sound { IsSound setup.now.p.now setup.now.lim run }
+    requires shape { IfSome shape.old (IsShapeOf setup.now.p.now) }
+    ensures shape { IfSome shape.new (IsShapeOf setup.now.p.now) }
     ensures sound { IfOk result (IsSound setup.now.p.now setup.now.lim) }
     ensures begins { IfOk result (λ after. IsPrefix run.rest.journal after.rest.journal) }
     ensures longer { IfOk result (λ after. IsOutcome run.rest.state Unfinished
@@ -41,14 +49,16 @@ pub(crate) fn go_on<R: Threads + Wait + Sync, G: Gate + Sync>(
         return Ok(run);
     };
     take(setup, &mut run, book, mv)?;
-    go_on_from(rt, setup, workers, run, book, gate)
+    go_on_from(rt, setup, shape, workers, run, book, gate)
 }
 
-/// Takes moves at rest, and a round whenever two tasks may run beside each other, until no task may go on.
+/// Takes moves at rest, and a round whenever two tasks may run beside each other, until no task may go on. The shape of the
+/// program's tree is built before the first round, and kept for the others.
 #[tactic(auto, using(crate::proofs::GoingOn::still_there, crate::proofs::GoingOn::gone_on))]
 fn go_on_from<R: Threads + Wait + Sync, G: Gate + Sync>(
     rt: &R,
-    setup: &Setup<'_>,
+    setup: &RestSetup<'_>,
+    shape: &mut Option<Shape>,
     workers: u32,
     run: RunAtRest,
     book: &mut Book,
@@ -57,30 +67,49 @@ fn go_on_from<R: Threads + Wait + Sync, G: Gate + Sync>(
     requires some { 1 ≤ workers }
     requires accepted { KeepsEffects setup.now.p.now }
     requires sound { IsSound setup.now.p.now setup.now.lim run }
-    ensures { IfOk result (HasGoneOn setup.now.p.now setup.now.lim run.rest.journal) }
+    requires shape { IfSome shape.old (IsShapeOf setup.now.p.now) }
+    ensures shape { IfSome shape.new (IsShapeOf setup.now.p.now) }
+    ensures gone { IfOk result (HasGoneOn setup.now.p.now setup.now.lim run.rest.journal) }
 {
     let mut run = run;
     'rounds: for _ in rt.forever() {
         if !go_on_alone(setup, &mut run, book)? {
             return Ok(run);
         }
+        let tree = kept_or_built(setup.alloc, setup.p, shape.take())?;
         let room = book.account.room(setup.lim, &run.rest.state);
-        book.account.lay_out(room, setup.shape.nodes(), &run.rest);
-        book.begin_round()?;
-        run = side_by_side(rt, setup, workers, book.account.tasks(), room, run, gate)?;
+        book.account.lay_out(room, tree.nodes(), &run.rest);
+        let round = Setup {
+            alloc: setup.alloc,
+            p: setup.p,
+            lim: setup.lim,
+            shape: &tree,
+        };
+        run = side_by_side(rt, &round, workers, room, run, gate)?;
+        *shape = Some(tree);
         book.account.recount(setup.lim, &run.rest);
-        book.read(run.rest.journal.as_slice())?;
+        book.begin_anew(&run.rest.state, run.rest.journal.len())?;
     }
     unreachable!()
 }
 
-/// The run after a round of the workers on a floor with room for so many tasks. It ends once one of them has ended so many, or
-/// once there is room for no more.
+/// The shape of the program's tree: the one that was kept, or else one that is built now.
+fn kept_or_built(alloc: Global, p: &Prog, kept: Option<Shape>) -> Result<Shape, Memory>
+    requires { IfSome kept (IsShapeOf p.now) }
+    ensures { IfOk result (IsShapeOf p.now) }
+{
+    match kept {
+        Some(shape) => Ok(shape),
+        None => Shape::build(alloc, p),
+    }
+}
+
+/// The run after a round of the workers on a floor with room for so many tasks. It ends once one of them finds that tasks are
+/// short, or once there is room for no more.
 fn side_by_side<R: Threads + Wait + Sync, G: Gate + Sync>(
     rt: &R,
     setup: &Setup<'_>,
     workers: u32,
-    tasks: u64,
     room: u32,
     run: RunAtRest,
     gate: &G,
@@ -91,6 +120,6 @@ fn side_by_side<R: Threads + Wait + Sync, G: Gate + Sync>(
     ensures { IfOk result (HasGoneOn setup.now.p.now setup.now.lim run.rest.journal) }
 {
     let RunAtRest { rest, .. } = run;
-    let rest = round_within(rt, setup, workers, tasks, room, rest, gate)?;
+    let rest = round_within(rt, setup, workers, room, rest, gate)?;
     RunAtRest::of(setup.alloc, setup.p, setup.lim, rest)
 }

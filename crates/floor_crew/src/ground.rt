@@ -28,11 +28,9 @@ const MOST_TRIES: u32 = 16;
 pub(crate) struct Ground<'a, N: Named + Planted, F: Located> {
     setup: &'a Setup<'a>,
     floor: &'a Floor<N>,
-    // Whether the round is to end: some task has met a fault, a worker has ended enough tasks, or there is room for no further
-    // task. Then no worker begins a segment.
+    // Whether the round is to end: some task has met a fault, a worker has found that tasks are short, or there is room for no
+    // further task. Then no worker begins a segment.
     is_over: AtomicBool,
-    // How many tasks of one worker are enough.
-    tasks: u64,
     // From which number on a task that is made is to be one of the last.
     full: u32,
     // Which tasks were found to wait.
@@ -53,13 +51,11 @@ impl<'a, N: Named + Planted, F: Located> Model for Ground<'a, N, F> {
 }
 
 impl<'a, N: Named + Planted, F: Located> Ground<'a, N, F> {
-    /// The ground of a round on this floor, in which a worker ends so many tasks, and which ends once a task with the number
-    /// `full` or a higher one was made.
+    /// The ground of a round on this floor, which ends once a task with the number `full` or a higher one was made.
     pub(crate) fn new(
         setup: &'a Setup<'a>,
         floor: &'a Floor<N>,
         waiters: Waiters,
-        tasks: u64,
         full: u32,
     ) -> Self
         requires located { floor.now ≡ F.table }
@@ -69,7 +65,6 @@ impl<'a, N: Named + Planted, F: Located> Ground<'a, N, F> {
             setup,
             floor,
             is_over: AtomicBool::new(false),
-            tasks,
             full,
             waiters,
             of: PhantomData,
@@ -265,11 +260,6 @@ impl<'a, N: Named + Planted, F: Located> Ground<'a, N, F> {
     /// The task that was found to wait for this one, if one was.
     pub(crate) fn waiter_of(&self, task: u32) -> Option<u32> {
         self.waiters.of(task)
-    }
-
-    /// Whether so many tasks that one worker has ended are enough for the round.
-    pub(crate) fn are_enough(&self, tasks: u64) -> bool {
-        tasks >= self.tasks
     }
 
     /// Whether the floor has no room for further tasks after this one.

@@ -2,6 +2,7 @@
 ghost use Rattle.std.specs.Prelude.{IfSome};
 ghost use Rattle.floor_crew.specs.inner.Lent.{IsOtherOn};
 
+use crate::account::are_short;
 use crate::ended::Ended;
 use crate::ground::Ground;
 use crate::located::Located;
@@ -12,6 +13,7 @@ use run_gates::Gate;
 use seg_journal::End;
 use std::marker::Model;
 use std::sync::Wait;
+use task_floor::Tally;
 use task_floor::steps::Served;
 use tree_admit::serving::TreeWorker;
 use twe_base::Memory;
@@ -22,6 +24,9 @@ const LATEST: usize = 4;
 
 /// How many others of them it looks at then.
 const GLANCES: usize = 28;
+
+/// How many tasks a worker ends before it asks whether they were short.
+const ENOUGH_TASKS: u64 = 64;
 
 /// A worker's way to the floor.
 #[derive(Drop)]
@@ -35,8 +40,8 @@ pub(crate) struct OnFloor<'a, R: Wait, N: Named + Planted, F: Located, G> {
     // A task whose turn another worker had. That one goes on with it.
     busy: Option<u32>,
     ended: Ended,
-    // How many tasks it has ended.
-    tasks: u64,
+    // What it had ended when it last asked whether tasks are short.
+    asked: Tally,
 }
 
 impl<'a, R: Wait, N: Named + Planted, F: Located, G> Model for OnFloor<'a, R, N, F, G> {
@@ -68,7 +73,7 @@ impl<'a, R: Wait, N: Named + Planted, F: Located, G: Gate> OnFloor<'a, R, N, F, 
             worker,
             busy: None,
             ended: Ended::new(ground.alloc()),
-            tasks: 0,
+            asked: Tally::default(),
         }
     }
 
@@ -130,20 +135,28 @@ impl<'a, R: Wait, N: Named + Planted, F: Located, G: Gate> OnFloor<'a, R, N, F, 
         }
     }
 
-    /// Counts a task that has ended.
-    fn count_end(&mut self) {
-        self.tasks = self.tasks.saturating_add(1);
-        if self.ground.are_enough(self.tasks) {
+    /// Asks, once this worker has ended some more tasks, whether they were short. Then the round is to end.
+    fn ask_for_length(&mut self) {
+        let Some(worker) = &self.worker else {
+            return;
+        };
+        let now = worker.tally();
+        let since = since(self.asked, now);
+        if since.tasks < ENOUGH_TASKS {
+            return;
+        }
+        self.asked = now;
+        if are_short(since.tasks, since.fuel) {
             self.ground.stop();
         }
     }
 
-    /// Notes how a segment of a task has ended. The round is to end if that is a fault, if this worker has ended enough tasks, or
-    /// if the floor has no room for further tasks.
+    /// Notes how a segment of a task has ended. The round is to end if that is a fault, if this worker finds that tasks are
+    /// short, or if the floor has no room for further tasks.
     fn note(&mut self, task: u32, end: End) -> Result<(), Memory> {
         match end {
             End::Done { .. } => {
-                self.count_end();
+                self.ask_for_length();
                 self.ended.end(task, self.ground.waiter_of(task))
             }
             End::Fault { .. } => {
@@ -197,5 +210,13 @@ impl<'a, R: Wait, N: Named + Planted, F: Located, G: Gate> RoundAccess for OnFlo
     fn tell(&mut self, waiting: &mut Waiting) -> Result<(), Memory> {
         self.glance()?;
         self.ended.tell(waiting)
+    }
+}
+
+/// What a worker has ended since.
+fn since(before: Tally, now: Tally) -> Tally {
+    Tally {
+        tasks: now.tasks.saturating_sub(before.tasks),
+        fuel: now.fuel.saturating_sub(before.fuel),
     }
 }

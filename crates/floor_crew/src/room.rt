@@ -21,13 +21,12 @@ use task_floor::steps::Rest;
 use twe_base::{Limits, Memory};
 use twe_machine::{ReplayFail, moves_make_the_journal, one_first_illegal, replay_journal};
 
-/// A round of so many workers, of whom one ends so many tasks at most, on a floor with room for so many tasks, or for all that may
-/// be made. Returns the run after that, whose journal begins with the one from before.
+/// A round of so many workers on a floor with room for so many tasks, or for all that may be made. Returns the run after that,
+/// whose journal begins with the one from before.
 pub(crate) fn round_within<R: Threads + Wait + Sync, G: Gate + Sync>(
     rt: &R,
     setup: &Setup<'_>,
     workers: u32,
-    tasks: u64,
     room: u32,
     rest: Rest,
     gate: &G,
@@ -40,7 +39,7 @@ pub(crate) fn round_within<R: Threads + Wait + Sync, G: Gate + Sync>(
 {
     let (p, lim) = (setup.p, setup.lim);
     if room >= lim.tasks || rest.state.asked >= room {
-        return on_own_floor(rt, setup, workers, tasks, u32::MAX, rest, gate);
+        return on_own_floor(rt, setup, workers, u32::MAX, rest, gate);
     }
     let before = rest.journal.len();
     let lower = Setup {
@@ -53,7 +52,7 @@ pub(crate) fn round_within<R: Threads + Wait + Sync, G: Gate + Sync>(
         shape: setup.shape,
     };
     let full = room.saturating_sub(workers);
-    let after = on_own_floor(rt, &lower, workers, tasks, full, rest, gate)?;
+    let after = on_own_floor(rt, &lower, workers, full, rest, gate)?;
     if after.state.asked < room {
         return Ok(after);
     }
@@ -65,7 +64,6 @@ fn on_own_floor<R: Threads + Wait + Sync, G: Gate + Sync>(
     rt: &R,
     setup: &Setup<'_>,
     workers: u32,
-    tasks: u64,
     full: u32,
     rest: Rest,
     gate: &G,
@@ -76,7 +74,7 @@ fn on_own_floor<R: Threads + Wait + Sync, G: Gate + Sync>(
     ensures run { IfOk result (λ after. IsRun setup.now.p.now setup.now.lim after.journal after.state) }
     ensures begins { IfOk result (λ after. IsPrefix rest.journal after.journal) }
 {
-    round::<Brand, R, G>(rt, setup, workers, tasks, full, rest, gate)
+    round::<Brand, R, G>(rt, setup, workers, full, rest, gate)
 }
 
 /// The run that has these entries.

@@ -26,13 +26,12 @@ use twe_base::{List, Memory};
 use twe_rounds::{RoundProgress, Site, Team, deal};
 
 /// A round of so many workers: the run goes on a floor, on which they admit tasks and run segments at the same time, until they
-/// find no task that may go on, one of them has ended so many tasks, or a task with the number `full` was made. Returns the run
-/// after that, whose journal begins with the one from before.
+/// find no task that may go on, one of them finds that tasks are short, or a task with the number `full` was made. Returns the
+/// run after that, whose journal begins with the one from before.
 pub(crate) fn round<'a, N: Named + Planted + Send + Sync, R: Threads + Wait + Sync, G: Gate + Sync>(
     rt: &'a R,
     setup: &'a Setup<'a>,
     workers: u32,
-    tasks: u64,
     full: u32,
     rest: Rest,
     gate: &'a G,
@@ -51,7 +50,7 @@ pub(crate) fn round<'a, N: Named + Planted + Send + Sync, R: Threads + Wait + Sy
     let mut parts = List::new(alloc);
     parts.push(part)?;
     let stand = lend::<N, Brand, R, G>(
-        rt, setup, workers, tasks, full, &floor, stand, team, gate, &mut parts,
+        rt, setup, workers, full, &floor, stand, team, gate, &mut parts,
     )?;
     floor.rest(alloc, stand, parts.as_slice())
 }
@@ -67,7 +66,6 @@ fn lend<
     rt: &'a R,
     setup: &'a Setup<'a>,
     workers: u32,
-    tasks: u64,
     full: u32,
     floor: &'a Floor<N>,
     stand: Stand,
@@ -88,7 +86,7 @@ fn lend<
     let waiters = Waiters::new(setup.alloc, setup.lim.tasks)?;
     let progress = RoundProgress::new(team.pending);
     let mut hands = split_all::<N, F>(setup.alloc, floor, &mut stand, team.workers, workers)?;
-    let ground: Ground<'_, N, F> = Ground::new(setup, floor, waiters, tasks, full);
+    let ground: Ground<'_, N, F> = Ground::new(setup, floor, waiters, full);
     let shared = Shared {
         rt,
         gate,

@@ -1,10 +1,11 @@
 //! A whole run by workers on the floor: a quiet step and a round in turn, until the run is over.
 ghost use Rattle.std.specs.Prelude.{◌≡◌, ◌≤◌, IfOk};
 ghost use Rattle.isolation_laws.specs.soundness.KeepsEffects.{KeepsEffects};
-ghost use Rattle.twe_machine.specs.LowestFirst.{IsOver};
+ghost use Rattle.twe_machine.specs.LowestFirst.{IsOver, LowestFirst};
 ghost use Rattle.twe_machine.specs.Runs.{Legal, state_after};
 
 use crate::crew::FloorCrew;
+use flat_sched::run_lowest;
 use run_gates::Gate;
 use seg_journal::Journal;
 use std::alloc::Global;
@@ -15,8 +16,8 @@ use twe_machine::State;
 use twe_program::Prog;
 
 /// Runs the program under these limits to its end, by this many workers, 1 to 64, who run segments at the same time on one floor.
-/// Returns the journal of the run and the state that it leads to. Which of the legal journals it is depends on the workers. After
-/// a fault there may be entries of segments that had begun before.
+/// Returns the journal of the run and the state that it leads to. Which of the legal journals it is depends on the workers; by
+/// one worker it is that of the lowest-first run. After a fault there may be entries of segments that had begun before.
 pub fn run_on_floor<R: Threads + Wait + Sync, G: Gate + Sync>(
     rt: &R,
     alloc: Global,
@@ -31,12 +32,13 @@ pub fn run_on_floor<R: Threads + Wait + Sync, G: Gate + Sync>(
     ensures legal { IfOk result (λ run. Legal p.now lim run.0) }
     ensures state { IfOk result (λ run. run.1 ≡ state_after p.now lim run.0) }
     ensures ended { IfOk result (λ run. IsOver run.1) }
+    ensures lone { workers ≡ 1 → IfOk result (λ run. LowestFirst p.now lim run.0) }
 {
-    let mut crew = FloorCrew::new(alloc, p, lim, workers)?;
-    // One worker has nobody beside it, so it needs no floor.
+    // One worker has nobody beside it, so it runs the program as it is run without workers.
     if workers == 1 {
-        crew.rest();
+        return run_lowest(alloc, p, lim);
     }
+    let mut crew = FloorCrew::new(alloc, p, lim, workers)?;
     'rounds: for _ in rt.forever() {
         let found = crew.quiet_step(p)?;
         if found.is_end() {

@@ -1,11 +1,11 @@
-//! What a run on a floor stands on.
+//! What a round on a floor stands on.
 
 use effect_tree::Shape;
 use std::alloc::Global;
 use twe_base::Limits;
 use twe_program::Prog;
 
-/// What each move of a run needs: where memory comes from, the program that is run, its limits and the shape of its tree.
+/// What a round needs: where memory comes from, the program that is run, its limits and the shape of its tree.
 #[derive(Drop)]
 pub(crate) struct Setup<'a> {
     /// Where memory comes from.

@@ -14,13 +14,14 @@ use twe_base::{FaultKind, Limits, Place};
 use twe_frontend::read_program;
 use twe_machine::{Outcome, outcome};
 
-/// The effects of `all` meet those of the two other tasks: `deep` writes far below them, and `far` is at no node of its own.
+/// The effects of `all` meet those of the two other tasks: `deep` writes far below them, and `far` is at no node of its own. Each
+/// has a loop, here and below, so that nobody knows before that it is short.
 const NESTED: &[u8] = b"region Data, L;\n\
 int d[4] in Data;\n\
 int y in Data:[3]:L;\n\
-task void all() writes Data:* { d[0] = 1; y = y + 1; }\n\
-task void deep() writes Data:[3]:L { y = y + 10; }\n\
-task void far(int j) writes Data:[j] { }\n\
+task void all() writes Data:* { int i = 0; while (i < 1) { i = i + 1; } d[0] = 1; y = y + 1; }\n\
+task void deep() writes Data:[3]:L { int i = 0; while (i < 1) { i = i + 1; } y = y + 10; }\n\
+task void far(int j) writes Data:[j] { int i = 0; while (i < 1) { i = i + 1; } }\n\
 task void main() pure {\n\
 future f = all.executeLater();\n\
 future g = deep.executeLater();\n\
@@ -28,15 +29,15 @@ future h = far.executeLater(9);\n\
 }\n";
 
 /// The two tasks may run at the same time.
-const TWO_TASKS: &[u8] = b"task void c() pure { }\n\
+const TWO_TASKS: &[u8] = b"task void c() pure { int i = 0; while (i < 1) { i = i + 1; } }\n\
 task void main() pure { future f = c.executeLater(); future g = c.executeLater(); }\n";
 
 /// Until `a` has ended, it holds `c` back. It waits for `b` meanwhile.
 const HELD: &[u8] = b"region X;\n\
 int x in X;\n\
-task void b() pure { }\n\
-task void a() writes X { future f = b.executeLater(); f.getValue(); }\n\
-task void c() writes X { x = x + 1; }\n\
+task void b() pure { int i = 0; while (i < 1) { i = i + 1; } }\n\
+task void a() writes X { int i = 0; while (i < 1) { i = i + 1; } future f = b.executeLater(); f.getValue(); }\n\
+task void c() writes X { int i = 0; while (i < 1) { i = i + 1; } x = x + 1; }\n\
 task void main() pure { future f = a.executeLater(); future g = c.executeLater(); }\n";
 
 /// The same, but `a` and the first `b` have much to do, so that the run goes on a floor before `a` has ended, and the `b` that
@@ -76,8 +77,9 @@ future h = b.executeLater();\n\
 }\n";
 
 /// The first task meets a fault. It and the second one are admitted before there is a floor.
-const FAULTY: &[u8] = b"task int bad(int n) pure { return 1 / n; }\n\
-task void c() pure { }\n\
+const FAULTY: &[u8] =
+    b"task int bad(int n) pure { int i = 0; while (i < 1) { i = i + 1; } return 1 / n; }\n\
+task void c() pure { int i = 0; while (i < 1) { i = i + 1; } }\n\
 task void main() pure { future f = bad.executeLater(0); future g = c.executeLater(); }\n";
 
 /// A gate that counts the segments of some tasks which workers are about to run.
@@ -210,7 +212,7 @@ fn no_worker_begins_a_segment_once_a_fault_is_known(rt: HostRuntime) -> Result<(
     let gate = Watched::new(1, 3);
     let ran = step_and_round(&rt, rt.alloc(), FAULTY, 1, &gate)?;
     let kind = FaultKind::DivZero;
-    let place = Place { line: 1, col: 37 };
+    let place = Place { line: 1, col: 77 };
     let task = 1;
     assert_eq!(rt; ran.outcome, Outcome::Fault { task, kind, place });
     assert_eq!(rt; gate.passed(), 1);

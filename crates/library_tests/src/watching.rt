@@ -15,13 +15,15 @@ const LIMIT: u64 = 100_000_000;
 /// How many turns a task looks before it lets another thread go on.
 const TURNS: u64 = 256;
 
-/// `main` makes nine tasks, one after the other. The first is made before there is a floor.
-const NINE: &[u8] = b"task void c() pure { }\n\
-task void main() pure { int i = 0; while (i < 9) { future f = c.executeLater(); i = i + 1; } }\n";
+/// `main` makes nine tasks, one after the other, on a floor. Nobody knows before how long it and they take.
+const NINE: &[u8] = b"task void c() pure { int i = 0; while (i < 1) { i = i + 1; } }\n\
+int one() pure { return 1; }\n\
+task void main() pure { int i = 0; while (i < 9) { future f = c.executeLater(); i = i + one(); } }\n";
 
-/// `main` makes more tasks than one worker has room for on a floor, and each is worth one.
+/// `main` makes more tasks than the first floor has room for, and each is worth a worker.
 const MANY: &[u8] = b"task void c() pure { int i = 0; while (i < 2000) { i = i + 1; } }\n\
-task void main() pure { int i = 0; while (i < 1300) { future f = c.executeLater(); i = i + 1; } }\n";
+int one() pure { return 1; }\n\
+task void main() pure { int i = 0; while (i < 1300) { future f = c.executeLater(); i = i + one(); } }\n";
 
 /// A gate at which tasks come together by threes, in the order in which they come. A task waits there until its three are
 /// complete, and its worker runs nothing else meanwhile. Once a task has waited in vain, no other one waits.
@@ -117,8 +119,7 @@ fn three_workers_share_the_tasks_that_one_makes(rt: HostRuntime) -> Result<(), F
 
 #[test]
 fn a_second_floor_is_laid_out(rt: HostRuntime) -> Result<(), Fail> {
-    // A worker has room for 1,024 new tasks on a floor, and ends 64 tasks on the first one. The last tasks run on a floor that
-    // the work before it has paid for.
+    // The first floor has room for 1,024 tasks. The last tasks run on a floor that the work before it has paid for.
     let gate = Threes::new(1298, 0);
     let ran = step_and_round(&rt, rt.alloc(), MANY, 3, &gate)?;
     assert_eq!(rt; ran, all_done(1301));

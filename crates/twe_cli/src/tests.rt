@@ -19,15 +19,16 @@ const UNCOVERED: &[u8] = b"region A;\nint x in A = 41;\ntask void main() reads A
 
 const REFUSAL: &[u8] = b"refused: E1 at 3:28\n";
 
-const TWO_TASKS: &[u8] = b"task void c() pure { }
+// Nobody knows before that these loops are short.
+const TWO_TASKS: &[u8] = b"task void c() pure { int i = 0; while (i < 1) { i = i + 1; } }
 task void main() pure { future f = c.executeLater(); future g = c.executeLater(); }
 ";
 
 const TWO_WRITERS: &[u8] = b"region A, B;
 int x in A;
 int y in B;
-task void c() writes A { x = 1; }
-task void e() writes B { y = 1; }
+task void c() writes A { while (x < 1) { x = 1; } }
+task void e() writes B { while (y < 1) { y = 1; } }
 task void main() pure { future f = c.executeLater(); future g = e.executeLater(); }
 ";
 

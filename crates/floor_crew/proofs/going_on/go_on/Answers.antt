@@ -14,7 +14,7 @@ returns-clause-begins g c =
     let old = c.args.run in
     let moved = c.take.new.run in
     IfOk-weaker c.go_on_from.result (HasGoneOn c.args.setup.now.p.now c.args.setup.now.lim moved.rest.journal) (λ (after : RunAtRest). IsPrefix old.rest.journal after.rest.journal)
-    (λ after gone. prefix_trans old.rest.journal moved.rest.journal after.rest.journal c.in_ok-take.ensures.gone.begins gone.begins) c.go_on_from.ensures
+    (λ after gone. prefix_trans old.rest.journal moved.rest.journal after.rest.journal c.in_ok-take.ensures.gone.begins gone.begins) c.go_on_from.ensures.gone
 
 pub returns-clause-longer : goal.returns-clause-longer
 returns-clause-longer g c =
@@ -23,4 +23,4 @@ returns-clause-longer g c =
     IfOk-weaker c.go_on_from.result (HasGoneOn c.args.setup.now.p.now c.args.setup.now.lim moved.rest.journal)
     (λ (after : RunAtRest). IsOutcome old.rest.state Unfinished → length old.rest.journal < length after.rest.journal)
     (λ after gone unfinished. longer_by_one old.rest.journal moved.rest.journal after.rest.journal (entry_of c.args.setup.now.p.now c.args.setup.now.lim old.rest.state c.in-Some.mv) c.in_ok-take.ensures.journal gone.begins)
-    c.go_on_from.ensures
+    c.go_on_from.ensures.gone

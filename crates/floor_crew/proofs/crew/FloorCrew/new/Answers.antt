@@ -2,7 +2,6 @@ use Rattle.std.proofs.Common.{sym, subst}
 use Rattle.isolation_laws.specs.soundness.KeepsEffects.{KeepsEffects}
 use Rattle.twe_program.specs.Program.{Program}
 use Rattle.floor_crew.specs.inner.GoingOn.{IsSound}
-use Rattle.floor_crew.specs.inner.Keeping.{IsShapeOf}
 use Rattle.floor_crew.proofs.crew.FloorCrew.new.Goals as goal
 
 pub invariant_of-result : goal.invariant_of-result
@@ -11,6 +10,5 @@ invariant_of-result c = (
   c.requires.most,
   subst KeepsEffects (sym c.of.ensures) c.requires.accepted,
   subst (λ (p : Program). IsSound p c.args.lim c.in_ok-run.run') (sym c.of.ensures) c.in_ok-run.ensures.sound,
-  subst (λ (p : Program). IsShapeOf p c.in_ok-build.field-0) (sym c.of.ensures)
-      (record { tree = c.in_ok-build.ensures.tree; exact = c.in_ok-build.ensures.exact }),
+  tt,
 )
