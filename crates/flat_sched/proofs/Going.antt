@@ -11,12 +11,13 @@ use Rattle.twe_machine.specs.LowestFirst.{IsLowest, IsOver, LowestFirst}
 use Rattle.twe_machine.specs.Moves.{move_result, start_of}
 use Rattle.twe_machine.specs.Runs.{counted, IsOutcome, IsRun, entry_of}
 use Rattle.flat_sched.proofs.Faults.{taken_well}
-use Rattle.flat_sched.proofs.SoFar.{LowestSoFar, NoFaults, counted_more, legal_more, lowest_more, lowest_whole, none_more, replayed_more}
+use Rattle.flat_sched.specs.SoFar.{LowestSoFar}
+use Rattle.flat_sched.proofs.SoFar.{NoFaults, counted_more, legal_more, lowest_more, lowest_whole, none_more, replayed_more}
 
 -- the run so far
 pub record IsGoing (p : Program) (lim : Bounds) (journal : List Entry) (st : State) : Type 0 where
   pub run : IsRun p lim journal st
-  pub lowest : LowestSoFar p lim (start_of p lim) journal
+  pub lowest : LowestSoFar p lim journal
   pub clear : st.first_fault ≡ None → NoFaults journal
   pub counted : counted journal ≡ journal
 

@@ -10,6 +10,7 @@ use Rattle.twe_machine.specs.Legal.{MayMove}
 use Rattle.twe_machine.specs.LowestFirst.{IsLowest, IsOver, LowestFirstFrom}
 use Rattle.twe_machine.specs.Moves.{move_result}
 use Rattle.twe_machine.specs.Runs.{counted, is_fault, replayed, LegalFrom, IsOutcome}
+use Rattle.flat_sched.specs.SoFar.{LowestSoFarFrom}
 
 -- a journal goes on by one move
 pub replayed_more : (p : Program) (lim : Bounds) (st : State) (entries : List Entry) (last : Entry) → replayed p lim st (entries ++ last ∷ []) ≡ (move_result p lim (replayed p lim st entries) last.mv).0
@@ -21,22 +22,16 @@ pub legal_more : (p : Program) (lim : Bounds) (st : State) (entries : List Entry
 legal_more p lim st [] last legal may end = (may, end, tt)
 legal_more p lim st (entry ∷ entries) last legal may end = (legal.0, legal.1, legal_more p lim (move_result p lim st entry.mv).0 entries last legal.2 may end)
 
--- each move was the lowest one in a run that was unfinished
-abbrev pub LowestSoFar : Program → Bounds → State → List Entry → Type 0
-LowestSoFar p lim st [] = Unit {0}
-LowestSoFar p lim st (entry ∷ entries) =
-    IsOutcome st Unfinished × IsLowest st entry.mv × ((move_result p lim st entry.mv).1 ≡ entry.end)
-    × LowestSoFar p lim (move_result p lim st entry.mv).0 entries
-
-pub lowest_more : (p : Program) (lim : Bounds) (st : State) (entries : List Entry) (last : Entry) → LowestSoFar p lim st entries
+-- the next move is the lowest one in a run that was unfinished
+pub lowest_more : (p : Program) (lim : Bounds) (st : State) (entries : List Entry) (last : Entry) → LowestSoFarFrom p lim st entries
     → IsOutcome (replayed p lim st entries) Unfinished → IsLowest (replayed p lim st entries) last.mv → (move_result p lim (replayed p lim st entries) last.mv).1 ≡ last.end
-    → LowestSoFar p lim st (entries ++ last ∷ [])
+    → LowestSoFarFrom p lim st (entries ++ last ∷ [])
 lowest_more p lim st [] last before unfinished low end = (unfinished, low, end, tt)
 lowest_more p lim st (entry ∷ entries) last before unfinished low end =
     (before.0, before.1, before.2, lowest_more p lim (move_result p lim st entry.mv).0 entries last before.3 unfinished low end)
 
 -- at the end of the run that makes the lowest-first journal
-pub lowest_whole : (p : Program) (lim : Bounds) (st : State) (entries : List Entry) → LowestSoFar p lim st entries → IsOver (replayed p lim st entries) → LowestFirstFrom p lim st entries
+pub lowest_whole : (p : Program) (lim : Bounds) (st : State) (entries : List Entry) → LowestSoFarFrom p lim st entries → IsOver (replayed p lim st entries) → LowestFirstFrom p lim st entries
 lowest_whole p lim st [] before over = over
 lowest_whole p lim st (entry ∷ entries) before over =
     (before.0, before.1, before.2, lowest_whole p lim (move_result p lim st entry.mv).0 entries before.3 over)

@@ -1,2 +1,3 @@
+pub mod SoFar
 pub mod Stuck
 pub mod inner

@@ -8,6 +8,7 @@ mod held;
 mod laws;
 mod lists;
 mod looking;
+mod lookout;
 mod lowest_run;
 mod noting;
 mod passing;
@@ -16,6 +17,7 @@ mod stuck;
 
 pub use held::held_by;
 pub use laws::{one_stuck_cycle, stuck_cycles_have_true_edges};
-pub use lowest_run::run_lowest;
+pub use lookout::Lookout;
+pub use lowest_run::{run_lowest, run_lowest_while};
 pub use stuck::stuck_cycle;
 pub use twe_machine::lowest;

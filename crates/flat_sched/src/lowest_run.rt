@@ -7,11 +7,13 @@ ghost use Rattle.twe_machine.specs.Legal.{MayMove};
 ghost use Rattle.twe_machine.specs.LowestFirst.{IsLowest, IsOver, LowestFirst};
 ghost use Rattle.twe_machine.specs.Moves.{move_result, start_of};
 ghost use Rattle.twe_machine.specs.Runs.{IsReachable, IsReached, Legal, state_after, IsOutcome, EachOnce, EachAtMostOnce, counted, entry_of};
+ghost use Rattle.flat_sched.specs.SoFar.{LowestSoFar};
 ghost use Rattle.flat_sched.specs.inner.Books.{Keeps};
 ghost use Rattle.flat_sched.specs.inner.Lists.{IsReady};
 
 use crate::books::Books;
 use crate::looking::look;
+use crate::lookout::Lookout;
 use crate::noting::note;
 use seg_journal::{Entry, Journal, Limits, Move};
 use std::alloc::Global;
@@ -41,6 +43,32 @@ pub fn run_lowest(alloc: Global, p: &Prog, lim: Limits) -> Result<(Journal, Stat
     let mut journal = Journal::new(alloc);
     let mut books = first_books(alloc)?;
     'moves: while let Some(mv) = next_move(alloc, p, &st, &mut books)? {
+        take(alloc, p, lim, &mut st, &mut books, &mut journal, mv)?;
+    }
+    Ok((journal, st))
+}
+
+/// Runs the program under these limits as [`run_lowest`] does, as long as the lookout lets it go on. Returns the journal so far
+/// and the state that it leads to.
+pub fn run_lowest_while<L: Lookout>(
+    alloc: Global,
+    p: &Prog,
+    lim: Limits,
+    lookout: &mut L,
+) -> Result<(Journal, State), Memory>
+    ensures legal { IfOk result (λ run. Legal p.now lim run.0) }
+    ensures state { IfOk result (λ run. run.1 ≡ state_after p.now lim run.0) }
+    ensures lowest { IfOk result (λ run. LowestSoFar p.now lim run.0) }
+{
+    journals_are_short();
+    let (_main, _fuel) = (p.main, lim.fuel);
+    let mut st = start(alloc, p, lim)?;
+    let mut journal = Journal::new(alloc);
+    let mut books = first_books(alloc)?;
+    'moves: while let Some(mv) = next_move(alloc, p, &st, &mut books)? {
+        if !lookout.goes_on(p, &st, mv) {
+            break;
+        }
         take(alloc, p, lim, &mut st, &mut books, &mut journal, mv)?;
     }
     Ok((journal, st))
