@@ -74,7 +74,7 @@ impl RoundProgress {
         Some((before / UPPER).saturating_mul(2))
     }
 
-    /// A worker comes to a stage.
+    /// A worker comes to a stage. If it is the last one, those that sleep are woken.
     pub(crate) fn reach(&self, stage: u64) {
         let first = stage << COUNT_BITS;
         let mut seen = self.stage.load(Ordering::SeqCst);
@@ -91,9 +91,19 @@ impl RoundProgress {
                 .stage
                 .compare_exchange(seen, now, Ordering::SeqCst, Ordering::SeqCst)
             {
-                Ok(_) => return,
+                Ok(_) => {
+                    self.wake_if_all_came(now);
+                    return;
+                }
                 Err(other) => seen = other,
             }
+        }
+    }
+
+    /// Wakes those that sleep, if all workers have come to the stage that this word says.
+    fn wake_if_all_came(&self, stage: u64) {
+        if stage % (1 << COUNT_BITS) >= self.workers.load(Ordering::SeqCst) {
+            self.word.wake_all();
         }
     }
 
