@@ -10,13 +10,11 @@ ghost use Rattle.floor_crew.specs.inner.GoingOn.{HasGoneOn, IsSound};
 use crate::account::fuel_left;
 use crate::at_rest::RunAtRest;
 use crate::book::Book;
-use crate::brief::is_brief;
+use crate::brief::is_next_brief;
 use crate::looking::{Found, look};
 use crate::rest_setup::RestSetup;
 use seg_journal::{Kind, Move};
 use twe_base::Memory;
-use twe_machine::State;
-use twe_program::Prog;
 
 /// Takes moves until two tasks may run beside each other, or none may run. Returns whether two may.
 pub(crate) fn go_on_alone(
@@ -123,12 +121,4 @@ pub(crate) fn take(
     let after = fuel_left(&run.rest.state, mv.task);
     book.account.count(before.saturating_sub(after));
     book.read(run.rest.journal.as_slice())
-}
-
-/// Whether the next segment of a task is known to be short.
-fn is_next_brief(p: &Prog, st: &State, task: u32) -> bool {
-    match st.tasks.get(task as usize) {
-        Some(row) => is_brief(p, &row.frame),
-        None => false,
-    }
 }

@@ -2,11 +2,46 @@
 
 use crate::ahead::{LookAhead, Way};
 use seg_exec::{Frame, Position};
-use twe_program::{Arms, Block, Prog, Stmt, StmtKind};
+use twe_machine::State;
+use twe_program::{Arms, Block, Decl, Prog, Stmt, StmtKind};
+
+/// Whether the first segment of a task with this declaration is known to be short.
+pub(crate) fn starts_brief(decl: &Decl) -> bool {
+    let mut ahead = LookAhead::new();
+    ahead.through_rest(&decl.body.block, 0) != Way::Unknown
+}
+
+/// Whether no statement of a task has begun.
+pub(crate) fn is_at_start(st: &State, task: u32) -> bool {
+    match st.tasks.get(task as usize) {
+        Some(row) => has_not_begun(&row.frame),
+        None => false,
+    }
+}
+
+/// Whether no statement of the body with this frame has begun.
+fn has_not_begun(frame: &Frame) -> bool {
+    let Some(body) = &frame.body else {
+        return false;
+    };
+    let positions = body.open_blocks.as_slice();
+    match positions.first() {
+        Some(position) => positions.len() == 1 && position.after == 0,
+        None => false,
+    }
+}
+
+/// Whether the next segment of a task is known to be short.
+pub(crate) fn is_next_brief(p: &Prog, st: &State, task: u32) -> bool {
+    match st.tasks.get(task as usize) {
+        Some(row) => is_brief(p, &row.frame),
+        None => false,
+    }
+}
 
 /// Whether the next segment of a task with this frame is known to be short: it takes no longer than its text, which is short, or
 /// the body has ended. If not, nothing is known of the segment.
-pub(crate) fn is_brief(p: &Prog, frame: &Frame) -> bool {
+fn is_brief(p: &Prog, frame: &Frame) -> bool {
     let Some(body) = &frame.body else {
         return true;
     };

@@ -2,7 +2,7 @@
 //! rounds, and by workers in them.
 ghost use Rattle.std.specs.Prelude.{◌≡◌, ◌≤◌, [], Some, None, IfOk, IfErr, OnOk, OnErr};
 ghost use Rattle.isolation_laws.specs.soundness.KeepsEffects.{KeepsEffects};
-ghost use Rattle.twe_machine.specs.Runs.{Legal};
+ghost use Rattle.twe_machine.specs.Runs.{Legal, state_after};
 ghost use Rattle.twe_rounds.specs.Crews.{CrewRun, GoesOn, StepsQuietly, lost, state_of};
 ghost use Rattle.floor_crew.specs.Rounds.{GrowsUnlessOver};
 ghost use Rattle.floor_crew.specs.inner.GoingOn.{IsSound};
@@ -22,6 +22,7 @@ use std::marker::Model;
 use std::snapshot::Snapshot;
 use std::sync::Wait;
 use std::thread::Threads;
+use task_floor::steps::Rest;
 use twe_base::{Limits, Memory};
 use twe_machine::{Outcome, State, lowest, outcome};
 use twe_program::Prog;
@@ -85,6 +86,36 @@ impl FloorCrew {
         })
     }
 
+    /// A crew of this many workers, 1 to 64, for a run of the program that has this journal and has come to this state.
+    pub fn of(
+        alloc: Global,
+        p: &Prog,
+        lim: Limits,
+        workers: u32,
+        journal: Journal,
+        state: State,
+    ) -> Result<Self, Memory>
+        requires accepted { KeepsEffects p.now }
+        requires some { 1 ≤ workers }
+        requires most { workers ≤ 64 }
+        requires legal { Legal p.now lim journal }
+        requires state { state ≡ state_after p.now lim journal }
+        ensures { IfOk result (λ crew. crew ≡ record { prog = p.now; lim = lim; workers = workers; journal = Some journal }) }
+    {
+        let mut book = Book::new(alloc);
+        book.begin_anew(&state, journal.len())?;
+        let run = RunAtRest::of(alloc, p, lim, Rest { state, journal })?;
+        Ok(FloorCrew {
+            alloc,
+            prog: Snapshot::of(p),
+            shape: None,
+            lim,
+            workers,
+            run: Some(run),
+            book,
+        })
+    }
+
     /// Takes the lowest legal move, if the run can go on. If it cannot, the crew stays as it is, and the answer says how
     /// the run has ended.
     pub fn quiet_step(&mut self, p: &Prog) -> Result<Quietly, Memory>
@@ -103,9 +134,8 @@ impl FloorCrew {
         Ok(found)
     }
 
-    /// Takes the lowest legal move, if the run can go on, and then goes on until no task may. As long as no two tasks may run
-    /// beside each other, moves are taken at rest. If two may, the workers admit tasks and run segments on a floor until they
-    /// find no task that may go on.
+    /// Goes on with the run, if it can, until no task may. As long as no two tasks may run beside each other, moves are taken at
+    /// rest. If two may, the workers admit tasks and run segments on a floor until they find no task that may go on.
     pub fn round<R: Threads + Wait + Sync, G: Gate + Sync>(
         &mut self,
         rt: &R,

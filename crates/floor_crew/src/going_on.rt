@@ -1,5 +1,5 @@
 //! How a crew goes on from a run at rest: moves at rest and rounds in turn.
-ghost use Rattle.std.specs.Prelude.{◌≡◌, ◌≤◌, ◌<◌, length, IfOk, IfSome};
+ghost use Rattle.std.specs.Prelude.{◌≡◌, ◌≤◌, ◌<◌, length, IfOk, IfSome, IsFalse, IsTrue, OnOk};
 ghost use mathlib.Core.List.{IsPrefix};
 ghost use Rattle.isolation_laws.specs.soundness.KeepsEffects.{KeepsEffects};
 ghost use Rattle.twe_machine.specs.declared.ending.Outcome.TheVariants.{Unfinished};
@@ -22,9 +22,8 @@ use std::thread::Threads;
 use twe_base::Memory;
 use twe_program::Prog;
 
-/// Takes the lowest legal move, if the run can go on, and then moves at rest, and a round whenever two tasks may run beside each
-/// other, until no task may go on. Returns the run after that.
-#[tactic(auto, using(twe_rounds::proofs::Beginnings::prefix_self))]
+/// Takes moves at rest, and a round whenever two tasks may run beside each other, until no task may go on. If none was found that
+/// may and the run can go on, the lowest legal move comes first. Returns the run after that.
 pub(crate) fn go_on<R: Threads + Wait + Sync, G: Gate + Sync>(
     rt: &R,
     setup: &RestSetup<'_>,
@@ -44,12 +43,29 @@ pub(crate) fn go_on<R: Threads + Wait + Sync, G: Gate + Sync>(
     ensures longer { IfOk result (λ after. IsOutcome run.rest.state Unfinished
         → length run.rest.journal < length after.rest.journal) }
 {
-    let mut run = run;
-    let Some(mv) = next_move(setup.p, &run.rest.state) else {
+    let before = run.rest.journal.len();
+    let mut run = go_on_from(rt, setup, shape, workers, run, book, gate)?;
+    if run.rest.journal.len() > before {
         return Ok(run);
-    };
-    take(setup, &mut run, book, mv)?;
+    }
+    if !take_lowest(setup, &mut run, book)? {
+        return Ok(run);
+    }
     go_on_from(rt, setup, shape, workers, run, book, gate)
+}
+
+/// Takes the lowest legal move, if the run can go on. Returns whether it can.
+fn take_lowest(setup: &RestSetup<'_>, run: &mut RunAtRest, book: &mut Book) -> Result<bool, Memory>
+    requires { IsSound setup.now.p.now setup.now.lim run.old }
+    ensures gone { OnOk result (HasGoneOn setup.now.p.now setup.now.lim run.old.rest.journal run.new) }
+    ensures moved { IfOk result (λ moved. IsTrue moved → length run.old.rest.journal < length run.new.rest.journal) }
+    ensures still { IfOk result (λ moved. IsFalse moved → ¬ IsOutcome run.old.rest.state Unfinished) }
+{
+    let Some(mv) = next_move(setup.p, &run.rest.state) else {
+        return Ok(false);
+    };
+    take(setup, run, book, mv)?;
+    Ok(true)
 }
 
 /// Takes moves at rest, and a round whenever two tasks may run beside each other, until no task may go on. The shape of the

@@ -24,6 +24,7 @@ mod round;
 mod rounds;
 mod setup;
 mod stands;
+mod until_long;
 mod waiters;
 
 pub use crew::FloorCrew;

@@ -1,11 +1,13 @@
-//! A whole run by workers on the floor: a quiet step and a round in turn, until the run is over.
+//! A whole run by workers on the floor: what can be run without them, and then a round and a quiet step in turn, until the run is
+//! over.
 ghost use Rattle.std.specs.Prelude.{◌≡◌, ◌≤◌, IfOk};
 ghost use Rattle.isolation_laws.specs.soundness.KeepsEffects.{KeepsEffects};
 ghost use Rattle.twe_machine.specs.LowestFirst.{IsOver, LowestFirst};
 ghost use Rattle.twe_machine.specs.Runs.{Legal, state_after};
 
 use crate::crew::FloorCrew;
-use flat_sched::run_lowest;
+use crate::until_long::UntilLong;
+use flat_sched::{run_lowest, run_lowest_while};
 use run_gates::Gate;
 use seg_journal::Journal;
 use std::alloc::Global;
@@ -38,13 +40,14 @@ pub fn run_on_floor<R: Threads + Wait + Sync, G: Gate + Sync>(
     if workers == 1 {
         return run_lowest(alloc, p, lim);
     }
-    let mut crew = FloorCrew::new(alloc, p, lim, workers)?;
+    let (journal, state) = run_lowest_while(alloc, p, lim, &mut UntilLong::of(alloc, p)?)?;
+    let mut crew = FloorCrew::of(alloc, p, lim, workers, journal, state)?;
     'rounds: for _ in rt.forever() {
+        crew.round(rt, p, gate)?;
         let found = crew.quiet_step(p)?;
         if found.is_end() {
             return crew.close();
         }
-        crew.round(rt, p, gate)?;
     }
     unreachable!()
 }

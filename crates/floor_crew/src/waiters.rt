@@ -15,7 +15,7 @@ pub(crate) struct Waiters {
 impl Waiters {
     /// None was found yet of so many tasks.
     pub(crate) fn new(alloc: Global, tasks: u32) -> Result<Self, Memory> {
-        let mut waiters = Vec::new(alloc);
+        let mut waiters = Vec::with_capacity(alloc, tasks as usize)?;
         for _ in 0..tasks {
             waiters.push(AtomicU32::new(0))?;
         }

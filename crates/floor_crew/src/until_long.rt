@@ -1,0 +1,64 @@
+//! The beginning of a run: it is run lowest first, as it is without workers, as long as its segments are known to be short.
+
+use crate::brief::{is_at_start, is_next_brief, starts_brief};
+use flat_sched::Lookout;
+use seg_journal::{Kind, Move};
+use std::alloc::Global;
+use twe_base::{List, Memory};
+use twe_machine::State;
+use twe_program::Prog;
+
+/// Lets a run go on as long as there is only `main`, or each segment is known to be short. So it does not go on once a task was made
+/// whose first segment may be long: workers may run that one while others are made.
+#[derive(Drop)]
+pub(crate) struct UntilLong {
+    // For each declaration of a task whether the first segment of such a task is known to be short.
+    starts: List<bool>,
+    // How many tasks were looked at when they were made. `main` is not.
+    seen: u32,
+}
+
+impl UntilLong {
+    /// For a run of this program that has not begun.
+    pub(crate) fn of(alloc: Global, p: &Prog) -> Result<Self, Memory> {
+        let mut starts = List::new(alloc);
+        for task in p.tasks.as_slice() {
+            starts.push(starts_brief(task))?;
+        }
+        Ok(UntilLong { starts, seen: 1 })
+    }
+
+    /// Whether the first segment of each task that was made since the last look is known to be short.
+    fn new_ones_are_short(&mut self, st: &State) -> bool {
+        for task in self.seen..st.links.task_count() {
+            if !self.starts_short(st, task) {
+                return false;
+            }
+        }
+        self.seen = st.links.task_count();
+        true
+    }
+
+    /// Whether the first segment of this task is known to be short.
+    fn starts_short(&self, st: &State, task: u32) -> bool {
+        match st.tasks.get(task as usize) {
+            Some(row) => self.starts.get(row.frame.decl as usize) == Some(&true),
+            None => false,
+        }
+    }
+}
+
+impl Lookout for UntilLong {
+    fn goes_on(&mut self, p: &Prog, st: &State, mv: Move) -> bool {
+        if st.links.task_count() == 1 {
+            return true;
+        }
+        if !self.new_ones_are_short(st) {
+            return false;
+        }
+        match mv.kind {
+            Kind::Admit => true,
+            Kind::Run => is_at_start(st, mv.task) || is_next_brief(p, st, mv.task),
+        }
+    }
+}
