@@ -44,7 +44,7 @@ pub fn answer_input(
         Started::Answered(answer) => Ok(answer),
         Started::ToRun { p, lim } => {
             let (journal, st) = run_lowest(alloc, &p, lim)?;
-            answer_run(alloc, cmd, p, journal, st, book)
+            answer_run(alloc, cmd, p, journal, &st, book)
         }
     }
 }

@@ -29,12 +29,12 @@ pub fn answer_run(
     cmd: &Command,
     p: Prog,
     journal: Journal,
-    st: State,
+    st: &State,
     book: &mut Book,
 ) -> Result<Answer, Memory>
     requires new { IsNew book.old }
     requires keeps { KeepsEffects p }
-    requires asked { IsRunFor cmd.now p journal st }
+    requires asked { IsRunFor cmd.now p journal st.now }
     ensures { IfOk result (IsDueForProgram cmd.now p book.new) }
 {
     match *cmd {
@@ -43,13 +43,13 @@ pub fn answer_run(
             lim,
             journal: asked,
         } => {
-            let plain = answer_whole(alloc, workers, lim, p, journal, &st, book)?;
+            let plain = answer_whole(alloc, workers, lim, p, journal, st, book)?;
             add_journal(alloc, plain, asked, lim, &book.journal)
         }
         Command::Load { workers, n } => {
             let lim = Limits::default();
-            let plain = answer_whole(alloc, workers, lim, p, journal, &st, book)?;
-            answer_load(alloc, n, &st, plain)
+            let plain = answer_whole(alloc, workers, lim, p, journal, st, book)?;
+            answer_load(alloc, n, st, plain)
         }
         Command::Check | Command::Replay { .. } => unreachable!(),
     }

@@ -13,6 +13,7 @@ use floor_crew::run_on_floor;
 use run_gates::Gate;
 use seg_journal::Journal;
 use std::alloc::Global;
+use std::mem;
 use std::sync::Wait;
 use std::thread::Threads;
 use text_answers::{Book, Started, answer_run, start_command};
@@ -40,7 +41,10 @@ pub(crate) fn answer_command<R: Threads + Wait + Sync, S: Source, G: Gate + Sync
         Started::Answered(answer) => Ok(answer),
         Started::ToRun { p, lim } => {
             let (journal, st) = run_program(rt, alloc, cmd, &p, lim, gate)?;
-            answer_run(alloc, cmd, p, journal, st, book)
+            let answer = answer_run(alloc, cmd, p, journal, &st, book)?;
+            // The program ends with this answer, so it does not take the state apart.
+            mem::forget(st);
+            Ok(answer)
         }
     }
 }

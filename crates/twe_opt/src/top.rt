@@ -11,6 +11,7 @@ use crate::words::command_asked;
 use command_line::Command;
 use opt_crew::run_ahead;
 use std::alloc::Global;
+use std::mem;
 use std::sync::Wait;
 use std::thread::Threads;
 use text_answers::{Book, Started, answer_run, start_command};
@@ -79,7 +80,10 @@ fn answer_command<R: Threads + Wait + Sync, S: Source>(
         Started::Answered(answer) => Ok(answer),
         Started::ToRun { p, lim } => {
             let (journal, st) = run_ahead(rt, alloc, &p, lim, cmd.workers())?;
-            answer_run(alloc, cmd, p, journal, st, book)
+            let answer = answer_run(alloc, cmd, p, journal, &st, book)?;
+            // The program ends with this answer, so it does not take the state apart.
+            mem::forget(st);
+            Ok(answer)
         }
     }
 }

@@ -1,4 +1,4 @@
-use Rattle.std.proofs.Common.{subst}
+use Rattle.std.proofs.Common.{Ok, subst}
 use Rattle.twe_io.specs.Ends.{source}
 use Rattle.text_answers.specs.declared.starting.Started.{Started}
 use Rattle.text_answers.specs.Starting.{IsStarted}
@@ -27,8 +27,8 @@ answer_run-requires g c =
     record { new = is.0.new; keeps = is.0.keeps; asked = c.in_ok-journal-in-ToRun.ensures }
 
 -- the answer to it has its cause
-pub returns-in_ok-journal-in-ToRun : goal.returns-in_ok-journal-in-ToRun
-returns-in_ok-journal-in-ToRun g c =
+pub returns-in_ok-answer-in-ToRun : goal.returns-in_ok-answer-in-ToRun
+returns-in_ok-answer-in-ToRun g c =
     let src = source g.S.Source.left g.S.Source.faults g.S.Source.read_gives in
     let is = subst (λ (s : Started). IsStarted src c.args.cmd.now c.args.src.now c.start_command.new.src c.start_command.new.book s) c.in-ToRun.is c.in_ok-started.ensures in
-    cause_of_run src c.args.cmd.now c.args.src.now c.start_command.new.src c.in-ToRun.p c.answer_run.new.book c.answer_run.result is.1 c.answer_run.ensures
+    cause_of_run src c.args.cmd.now c.args.src.now c.start_command.new.src c.in-ToRun.p c.answer_run.new.book (Ok c.in_ok-answer-in-ToRun.answer) is.1 c.in_ok-answer-in-ToRun.ensures
