@@ -227,17 +227,23 @@ impl Book {
         Ok(())
     }
 
-    /// After a round, of which only the state is looked at: all tasks that have not ended are to be looked at, in the order of
-    /// their numbers, and nothing else is known. The journal has so many entries.
+    /// For a run of which only the state is looked at: all tasks that have not ended are to be looked at, in the order of their
+    /// numbers but for `main`, which comes last, and nothing else is known. The journal has so many entries.
     pub(crate) fn begin_anew(&mut self, state: &State, entries: usize) -> Result<(), Memory> {
         self.forget();
         self.read = entries;
-        for task in 0..state.links.task_count() {
-            if let Some(row) = state.tasks.get(task as usize)
-                && !has_ended(row.status)
-            {
-                self.ready.push_back(task)?;
-            }
+        for task in 1..state.links.task_count() {
+            self.look_at_unended(state, task)?;
+        }
+        self.look_at_unended(state, 0)
+    }
+
+    // A task is to be looked at after the others, if it has not ended.
+    fn look_at_unended(&mut self, state: &State, task: u32) -> Result<(), Memory> {
+        if let Some(row) = state.tasks.get(task as usize)
+            && !has_ended(row.status)
+        {
+            self.ready.push_back(task)?;
         }
         Ok(())
     }
