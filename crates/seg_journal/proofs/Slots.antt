@@ -1,6 +1,7 @@
 -- Entries in the slots of their numbers: if each number occurs once, the slots have each entry at its number.
 use Rattle.std.proofs.Common.{◌≡◌, ◌≢◌, ◌⊎◌, ◌+◌, ◌++◌, ◌<◌, ◌≤◌, ℕ, zero, suc, Bool, cond, List, [], ◌∷◌, length, drop, get_or, Option, None, Some, Result, Ok, Err, IfOk, ℤ, refl, sym, ap, subst, ◌∙◌, inl, inr, ⊎_elim, eq-eqb, ne_eqb, arith}
 use Rattle.std.specs.Prelude.{slice_get, slice_set, count_by, Contains}
+use Rattle.std.specs.Borrow.{Bor}
 use Rattle.std.proofs.lemmas.Bool.{cases_eq}
 use Rattle.std.proofs.lemmas.List.{length-set}
 use Rattle.std.proofs.lemmas.List.Sums.{sum_by-append}
@@ -10,7 +11,7 @@ use Rattle.std.proofs.Math.Seq.{drop-cons}
 use Rattle.seg_journal.specs.declared.journal.Entry.{Entry}
 use Rattle.seg_journal.specs.declared.numbered.NumberedEntry.{NumberedEntry}
 use Rattle.seg_journal.specs.Merging.{AreNumbered, IsMergeOf, all_of, has_number, journal_of, prints_of}
-use Rattle.seg_journal.specs.inner.Placing.{placed, present}
+use Rattle.seg_journal.specs.inner.Placing.{lying, placed, present}
 
 -- e is in the list
 abbrev pub IsIn : NumberedEntry → List NumberedEntry → Type 0
@@ -190,6 +191,21 @@ collected (Ok m) parts slots initial numbered size is journal prints =
     let merge = subst (λ (s : List (Option NumberedEntry)). IsMergeOf parts (present s)) (sym is) (merges parts initial numbered size) in
     (log, merge, journal, prints)
 collected (Err e) parts slots initial numbered size is journal prints = tt
+
+pub lying_length : (slots : List (Option (Bor NumberedEntry))) → length (lying slots) ≡ length slots
+lying_length [] = refl
+lying_length (x ∷ slots) = ap suc (lying_length slots)
+
+-- one entry more was placed
+pub entry_placed : (part : List NumberedEntry) (i : ℕ) (e : NumberedEntry) (old new : List (Option (Bor NumberedEntry))) (whole : List (Option NumberedEntry))
+    → i < length part → e ≡ get_or part i e → lying new ≡ slice_set (lying old) e.number (Some e) → placed (lying old) (drop i part) ≡ whole → placed (lying new) (drop (i + 1) part) ≡ whole
+entry_placed part i e old new whole below is set_now before =
+    let rest : List NumberedEntry = drop (suc i) part in
+    let front : drop i part ≡ e ∷ rest = drop-cons part i e below ∙ ap (λ (x : NumberedEntry). x ∷ rest) (sym is) in
+    let number : i + 1 ≡ suc i = omega arith in
+    ap (λ (n : ℕ). placed (lying new) (drop n part)) number
+    ∙ (ap (λ (s : List (Option NumberedEntry)). placed s rest) set_now
+    ∙ (ap (placed (lying old)) (sym front) ∙ before))
 
 -- two parts with the entries 1 and 0
 pub two_parts : (one two : List NumberedEntry) (a b : NumberedEntry) → one ≡ a ∷ [] → two ≡ b ∷ [] → a.number ≡ 1 → b.number ≡ 0 → AreNumbered (one ∷ two ∷ [])

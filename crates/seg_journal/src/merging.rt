@@ -2,7 +2,7 @@
 ghost use Rattle.std.specs.Prelude.{◌≡◌, ◌<◌, ◌+◌, List, length, IfOk, OnOk, Contains};
 ghost use Rattle.seg_journal.specs.declared.numbered.NumberedEntry.{NumberedEntry};
 ghost use Rattle.seg_journal.specs.Merging.{AreNumbered, IsMergeOf, all_of, journal_of, prints_of};
-ghost use Rattle.seg_journal.specs.inner.Placing.{placed, present};
+ghost use Rattle.seg_journal.specs.inner.Placing.{lying, placed, present};
 
 use crate::Journal;
 use crate::numbered::{JournalPart, NumberedEntry};
@@ -18,13 +18,16 @@ pub fn merge(alloc: Global, parts: &[JournalPart]) -> Result<(Journal, Ints), Me
 {
     let mut slots = empty_slots(alloc, parts)?;
     for part in parts {
-        place(alloc, &mut slots, part)?;
+        place(&mut slots, part);
     }
     collect(alloc, slots.as_slice())
 }
 
 /// A slot for each entry.
-fn empty_slots(alloc: Global, parts: &[JournalPart]) -> Result<List<Option<NumberedEntry>>, Memory>
+fn empty_slots<'a>(
+    alloc: Global,
+    parts: &'a [JournalPart],
+) -> Result<List<Option<&'a NumberedEntry>>, Memory>
     ensures { IfOk result (λ slots. length slots ≡ length (all_of parts.now)) }
 {
     let mut slots = List::with_capacity(alloc, entry_count(parts))?;
@@ -44,7 +47,7 @@ fn entry_count(parts: &[JournalPart]) -> usize {
 }
 
 /// Adds this many slots.
-fn add_slots(slots: &mut List<Option<NumberedEntry>>, count: usize) -> Result<(), Memory>
+fn add_slots(slots: &mut List<Option<&NumberedEntry>>, count: usize) -> Result<(), Memory>
     ensures { OnOk result (length slots.new ≡ length slots.old + count) }
 {
     for i in 0..count {
@@ -53,38 +56,30 @@ fn add_slots(slots: &mut List<Option<NumberedEntry>>, count: usize) -> Result<()
     Ok(())
 }
 
-/// Puts a copy of each entry into the slot of its number.
-fn place(
-    alloc: Global,
-    slots: &mut List<Option<NumberedEntry>>,
-    part: &JournalPart,
-) -> Result<(), Memory>
+/// Puts each entry into the slot of its number.
+fn place<'a>(slots: &mut List<Option<&'a NumberedEntry>>, part: &'a JournalPart)
     requires { (e : NumberedEntry) → Contains part.now e → e.number < length slots.old }
-    ensures placed { OnOk result (slots.new ≡ placed slots.old part.now) }
-    ensures size { OnOk result (length slots.new ≡ length slots.old) }
+    ensures placed { lying slots.new ≡ placed (lying slots.old) part.now }
+    ensures size { length slots.new ≡ length slots.old }
 {
     for e in part.as_slice() {
-        let copy = NumberedEntry {
-            number: e.number,
-            entry: e.entry,
-            prints: e.prints.copy(alloc)?,
-        };
-        slots.set(e.number as usize, Some(copy));
+        slots.set(e.number as usize, Some(e));
     }
-    Ok(())
 }
 
 /// The journal of the entries in the slots, and the numbers that they printed.
-fn collect(alloc: Global, slots: &[Option<NumberedEntry>]) -> Result<(Journal, Ints), Memory>
-    ensures journal { IfOk result (λ merged. merged.0 ≡ journal_of (present slots.now)) }
-    ensures prints { IfOk result (λ merged. merged.1 ≡ prints_of (present slots.now)) }
+fn collect(alloc: Global, slots: &[Option<&NumberedEntry>]) -> Result<(Journal, Ints), Memory>
+    ensures journal { IfOk result (λ merged. merged.0 ≡ journal_of (present (lying slots.now))) }
+    ensures prints { IfOk result (λ merged. merged.1 ≡ prints_of (present (lying slots.now))) }
 {
     let mut journal = Journal::with_capacity(alloc, slots.len())?;
     let mut prints = Ints::new(alloc);
     for slot in slots {
         if let Some(e) = slot {
             journal.push(e.entry)?;
-            prints.push_all(e.prints.as_slice())?;
+            if !e.prints.is_empty() {
+                prints.push_all(e.prints.as_slice())?;
+            }
         }
     }
     Ok((journal, prints))

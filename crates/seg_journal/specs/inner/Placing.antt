@@ -1,6 +1,11 @@
 -- Entries in the slots of their numbers.
-use Rattle.std.specs.Prelude.{List, [], ◌∷◌, Option, None, Some, slice_set}
+use Rattle.std.specs.Prelude.{List, [], ◌∷◌, Option, None, Some, map, option_copied, slice_set}
+use Rattle.std.specs.Borrow.{Bor}
 use Rattle.seg_journal.specs.declared.numbered.NumberedEntry.{NumberedEntry}
+
+-- what lies in the slots
+abbrev pub lying : List (Option (Bor NumberedEntry)) → List (Option NumberedEntry)
+lying slots = map option_copied slots
 
 -- the slots once each of these entries was put into the slot of its number
 abbrev pub placed : List (Option NumberedEntry) → List NumberedEntry → List (Option NumberedEntry)
