@@ -1,5 +1,5 @@
 //! Merging the parts of a journal.
-ghost use Rattle.std.specs.Prelude.{◌≡◌, ◌<◌, ◌+◌, List, length, IfOk, OnOk, Contains};
+ghost use Rattle.std.specs.Prelude.{◌≡◌, ◌<◌, ◌+◌, List, length, vec_len, IfOk, OnOk, Contains};
 ghost use Rattle.seg_journal.specs.declared.numbered.NumberedEntry.{NumberedEntry};
 ghost use Rattle.seg_journal.specs.Merging.{AreNumbered, IsMergeOf, all_of, journal_of, prints_of};
 ghost use Rattle.seg_journal.specs.inner.Placing.{lying, placed, present};
@@ -30,11 +30,11 @@ fn empty_slots<'a>(
 ) -> Result<List<Option<&'a NumberedEntry>>, Memory>
     ensures { IfOk result (λ slots. length slots ≡ length (all_of parts.now)) }
 {
-    let mut slots = List::with_capacity(alloc, entry_count(parts))?;
+    let mut slots = Vec::with_capacity(alloc, entry_count(parts))?;
     for part in parts {
         add_slots(&mut slots, part.len())?;
     }
-    Ok(slots)
+    Ok(List::from(slots))
 }
 
 /// How many entries the parts have together, for which memory is taken at once.
@@ -47,11 +47,12 @@ fn entry_count(parts: &[JournalPart]) -> usize {
 }
 
 /// Adds this many slots.
-fn add_slots(slots: &mut List<Option<&NumberedEntry>>, count: usize) -> Result<(), Memory>
-    ensures { OnOk result (length slots.new ≡ length slots.old + count) }
+fn add_slots(slots: &mut Vec<Option<&NumberedEntry>>, count: usize) -> Result<(), Memory>
+    ensures { OnOk result (vec_len slots.new ≡ vec_len slots.old + count) }
 {
     for i in 0..count {
-        slots.push(None)?;
+        slots.reserve(1)?;
+        slots.push_reserved(None);
     }
     Ok(())
 }
@@ -72,15 +73,16 @@ fn collect(alloc: Global, slots: &[Option<&NumberedEntry>]) -> Result<(Journal, 
     ensures journal { IfOk result (λ merged. merged.0 ≡ journal_of (present (lying slots.now))) }
     ensures prints { IfOk result (λ merged. merged.1 ≡ prints_of (present (lying slots.now))) }
 {
-    let mut journal = Journal::with_capacity(alloc, slots.len())?;
+    let mut journal = Vec::with_capacity(alloc, slots.len())?;
     let mut prints = Ints::new(alloc);
     for slot in slots {
         if let Some(e) = slot {
-            journal.push(e.entry)?;
+            journal.reserve(1)?;
+            journal.push_reserved(e.entry);
             if !e.prints.is_empty() {
                 prints.push_all(e.prints.as_slice())?;
             }
         }
     }
-    Ok((journal, prints))
+    Ok((List::from(journal), prints))
 }

@@ -5,6 +5,6 @@ use Rattle.seg_journal.proofs.merging.collect.Given as goal
 
 abbrev pub invariant-loop-slot : goal.invariant-loop-slot
 invariant-loop-slot l = record {
-  journal : l.journal ++ journal_of (present (lying (drop l.slot-index l.slots))) ≡ journal_of (present (lying l.slots));
+  journal : l.journal.items ++ journal_of (present (lying (drop l.slot-index l.slots))) ≡ journal_of (present (lying l.slots));
   prints : l.prints ++ prints_of (present (lying (drop l.slot-index l.slots))) ≡ prints_of (present (lying l.slots));
 }
