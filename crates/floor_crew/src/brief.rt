@@ -41,7 +41,7 @@ pub(crate) fn is_next_brief(p: &Prog, st: &State, task: u32) -> bool {
 
 /// Whether the next segment of a task with this frame is known to be short: it takes no longer than its text, which is short, or
 /// the body has ended. If not, nothing is known of the segment.
-fn is_brief(p: &Prog, frame: &Frame) -> bool {
+pub(crate) fn is_brief(p: &Prog, frame: &Frame) -> bool {
     let Some(body) = &frame.body else {
         return true;
     };

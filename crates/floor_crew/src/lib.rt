@@ -23,6 +23,7 @@ mod room;
 mod round;
 mod rounds;
 mod setup;
+mod standing;
 mod stands;
 mod until_long;
 mod waiters;

@@ -1,6 +1,7 @@
 //! The beginning of a run: it is run lowest first, as it is without workers, as long as its segments are known to be short.
 
-use crate::brief::{is_at_start, is_next_brief, starts_brief};
+use crate::brief::{is_at_start, is_brief, starts_brief};
+use crate::standing::{Standing, standing_of};
 use flat_sched::Lookout;
 use seg_journal::{Kind, Move};
 use std::alloc::Global;
@@ -8,12 +9,15 @@ use twe_base::{List, Memory};
 use twe_machine::State;
 use twe_program::Prog;
 
-/// Lets a run go on as long as there is only `main`, or each segment is known to be short. So it does not go on once a task was made
-/// whose first segment may be long: workers may run that one while others are made.
+/// Lets a run go on as long as there is only `main`, or each segment is known to be short. So it does not go on once a task was
+/// made whose first segment may be long: workers may run that one while others are made.
 #[derive(Drop)]
 pub(crate) struct UntilLong {
     // For each declaration of a task whether the first segment of such a task is known to be short.
     starts: List<bool>,
+    // For each declaration where a task of it stood whose next segment was found to be short, the latest one. In a loop that is
+    // where the next one stands too.
+    short_at: List<Option<Standing>>,
     // How many tasks were looked at when they were made. `main` is not.
     seen: u32,
 }
@@ -22,10 +26,16 @@ impl UntilLong {
     /// For a run of this program that has not begun.
     pub(crate) fn of(alloc: Global, p: &Prog) -> Result<Self, Memory> {
         let mut starts = List::new(alloc);
+        let mut short_at = List::new(alloc);
         for task in p.tasks.as_slice() {
             starts.push(starts_brief(task))?;
+            short_at.push(None)?;
         }
-        Ok(UntilLong { starts, seen: 1 })
+        Ok(UntilLong {
+            starts,
+            short_at,
+            seen: 1,
+        })
     }
 
     /// Whether the first segment of each task that was made since the last look is known to be short.
@@ -46,6 +56,25 @@ impl UntilLong {
             None => false,
         }
     }
+
+    /// Whether the next segment of this task is known to be short.
+    fn is_next_short(&mut self, p: &Prog, st: &State, task: u32) -> bool {
+        let Some(row) = st.tasks.get(task as usize) else {
+            return false;
+        };
+        let Some(standing) = standing_of(&row.frame) else {
+            return is_brief(p, &row.frame);
+        };
+        let decl = row.frame.decl as usize;
+        if self.short_at.get(decl) == Some(&Some(standing)) {
+            return true;
+        }
+        let short = is_brief(p, &row.frame);
+        if short && decl < self.short_at.len() {
+            self.short_at.set(decl, Some(standing));
+        }
+        short
+    }
 }
 
 impl Lookout for UntilLong {
@@ -58,7 +87,7 @@ impl Lookout for UntilLong {
         }
         match mv.kind {
             Kind::Admit => true,
-            Kind::Run => is_at_start(st, mv.task) || is_next_brief(p, st, mv.task),
+            Kind::Run => is_at_start(st, mv.task) || self.is_next_short(p, st, mv.task),
         }
     }
 }

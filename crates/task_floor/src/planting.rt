@@ -33,40 +33,43 @@ pub(crate) fn tree_slots(
         ++ map kinds.Task (replicate (count - length tasks) None)) ++ map kinds.Node contents) }
 {
     let unmade = count - tasks.len() as u32;
-    let mut slots = List::with_capacity(alloc, count as usize + contents.len())?;
+    let mut slots = Vec::with_capacity(alloc, count as usize + contents.len())?;
     add_made(alloc, &mut slots, tasks)?;
     add_empty(&mut slots, unmade)?;
     add_nodes(&mut slots, contents)?;
-    Ok(slots)
+    Ok(List::from(slots))
 }
 
 /// Adds the slots of tasks that were made.
-fn add_made(alloc: Global, slots: &mut List<TreeSlot>, tasks: List<TaskRow>) -> Result<(), Memory>
-    ensures { OnOk result (slots.new ≡ slots.old ++ map kinds.Task (map held_slot tasks)) }
+fn add_made(alloc: Global, slots: &mut Vec<TreeSlot>, tasks: List<TaskRow>) -> Result<(), Memory>
+    ensures { OnOk result (slots.new.items ≡ slots.old.items ++ map kinds.Task (map held_slot tasks)) }
 {
     for row in tasks.into_vec() {
         let slot = KeptSlot::new(alloc, slot_of(row))?;
-        slots.push(TreeSlot::Task(Some(slot)))?;
+        slots.reserve(1)?;
+        slots.push_reserved(TreeSlot::Task(Some(slot)));
     }
     Ok(())
 }
 
 /// Adds the slots of so many tasks that are not made.
-fn add_empty(slots: &mut List<TreeSlot>, count: u32) -> Result<(), Memory>
-    ensures { OnOk result (slots.new ≡ slots.old ++ map kinds.Task (replicate count None)) }
+fn add_empty(slots: &mut Vec<TreeSlot>, count: u32) -> Result<(), Memory>
+    ensures { OnOk result (slots.new.items ≡ slots.old.items ++ map kinds.Task (replicate count None)) }
 {
     for i in 0..count {
-        slots.push(TreeSlot::Task(None))?;
+        slots.reserve(1)?;
+        slots.push_reserved(TreeSlot::Task(None));
     }
     Ok(())
 }
 
 /// Adds the slots of nodes.
-fn add_nodes(slots: &mut List<TreeSlot>, contents: List<NodeContent>) -> Result<(), Memory>
-    ensures { OnOk result (slots.new ≡ slots.old ++ map kinds.Node contents) }
+fn add_nodes(slots: &mut Vec<TreeSlot>, contents: List<NodeContent>) -> Result<(), Memory>
+    ensures { OnOk result (slots.new.items ≡ slots.old.items ++ map kinds.Node contents) }
 {
     for content in contents.into_vec() {
-        slots.push(TreeSlot::Node(content))?;
+        slots.reserve(1)?;
+        slots.push_reserved(TreeSlot::Node(content));
     }
     Ok(())
 }

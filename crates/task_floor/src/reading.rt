@@ -42,13 +42,13 @@ pub(crate) fn rows_of(
 {
     let marks = unjoined(alloc, slots.as_slice())?;
     let mut slots = slots;
-    let mut rows = List::with_capacity(alloc, count_held(slots.as_slice()))?;
+    let mut rows = Vec::with_capacity(alloc, count_held(slots.as_slice()))?;
     for t in 0..slots.len() {
         let slot = slots.item_mut(t).take();
         let word = words[first + TASK_SPAN * t + 1];
         add_row(alloc, &mut rows, slot, word, marks.as_slice()[t])?;
     }
-    Ok(rows)
+    Ok(List::from(rows))
 }
 
 /// How many slots are not empty: so many rows there will be.
@@ -60,12 +60,12 @@ fn count_held(slots: &[Option<KeptSlot>]) -> usize {
 /// or none.
 fn add_row(
     alloc: Global,
-    rows: &mut List<TaskRow>,
+    rows: &mut Vec<TaskRow>,
     slot: Option<KeptSlot>,
     word: u64,
     unjoined: bool,
 ) -> Result<(), Memory>
-    ensures { OnOk result (rows.new ≡ rows.old ++ row_in slot (phase_of_word word) unjoined) }
+    ensures { OnOk result (rows.new.items ≡ rows.old.items ++ row_in slot (phase_of_word word) unjoined) }
 {
     match slot {
         None => Ok(()),
@@ -73,7 +73,9 @@ fn add_row(
             let slot = kept.into_slot();
             let joined = is_joined(slot.parent, unjoined);
             let row = row_of(alloc, slot, word, joined)?;
-            rows.push(row)
+            rows.reserve(1)?;
+            rows.push_reserved(row);
+            Ok(())
         }
     }
 }

@@ -1,7 +1,7 @@
 //! What a worker has ended, from which a crew tells whether tasks are worth workers.
 
-/// How many tasks a worker has ended, with a value or a fault, and how much fuel these took. No clause says that these numbers are
-/// right.
+/// How many tasks a worker has ended, with a value or a fault, and how much fuel these took. No clause says that these numbers
+/// are right.
 #[derive(Clone, Copy, Debug, Default, PartialEq, Eq)]
 pub struct Tally {
     /// How many tasks.

@@ -3,4 +3,4 @@ use Rattle.floor_table.specs.declared.nodes.slot.TreeSlot.TheVariants as kinds
 use Rattle.task_floor.proofs.planting.add_empty.Given as goal
 
 abbrev pub invariant-loop-i : goal.invariant-loop-i
-invariant-loop-i l = l.slots ≡ l.initial.slots ++ map kinds.Task (replicate l.i None)
+invariant-loop-i l = l.slots.items ≡ l.initial.slots.items ++ map kinds.Task (replicate l.i None)

@@ -25,10 +25,10 @@ loop-t-preserved c =
     let all : c.as_slice.result.now ≡ c.args.slots = c.as_slice.ensures in
     let marks = ap (λ (l : List Bool). get_or l c.loop-t.t false) c.as_slice-in-loop-t.ensures in
     let marked = marks ∙ (c.in_ok-marks.ensures.marks t (omega (arith, ap length all, here)) ∙ ap (λ (l : List (Option TaskSlot)). is_unjoined c.loop-t.t (held_in l)) all) in
-    let pushed : c.add_row.new.rows ≡ c.loop-t.rows ++ row_in c.take-slot.result (phase_of_word (slice_index words place)) (get_or c.as_slice-in-loop-t.result.now t false) = c.in_ok-add_row.ensures in
+    let pushed : c.add_row.new.rows.items ≡ c.loop-t.rows.items ++ row_in c.take-slot.result (phase_of_word (slice_index words place)) (get_or c.as_slice-in-loop-t.result.now t false) = c.in_ok-add_row.ensures in
     record {
       size = length-set c.loop-t.slots t c.take-slot.new.self ∙ size;
       rows =
-          rows_step words c.args.first (held_in c.args.slots) t c.loop-t.slots _ c.take-slot.result (phase_of_word (slice_index words place)) (get_or c.as_slice-in-loop-t.result.now t false) c.loop-t.rows
-          c.add_row.new.rows _ slot (drop_set c.loop-t.slots t c.take-slot.new.self) (sym (ap phase_word_at there)) marked pushed before.rows;
+          rows_step words c.args.first (held_in c.args.slots) t c.loop-t.slots _ c.take-slot.result (phase_of_word (slice_index words place)) (get_or c.as_slice-in-loop-t.result.now t false) c.loop-t.rows.items
+          c.add_row.new.rows.items _ slot (drop_set c.loop-t.slots t c.take-slot.new.self) (sym (ap phase_word_at there)) marked pushed before.rows;
     }

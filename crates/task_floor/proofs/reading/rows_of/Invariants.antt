@@ -6,5 +6,5 @@ use Rattle.task_floor.proofs.reading.rows_of.Given as goal
 abbrev pub invariant-loop-t : goal.invariant-loop-t
 invariant-loop-t l = record {
   size : length l.slots ≡ length l.initial.slots;
-  rows : l.rows ++ rows_from l.words l.first (held_in l.initial.slots) l.t (drop l.t l.slots) ≡ rows_from l.words l.first (held_in l.initial.slots) 0 l.initial.slots;
+  rows : l.rows.items ++ rows_from l.words l.first (held_in l.initial.slots) l.t (drop l.t l.slots) ≡ rows_from l.words l.first (held_in l.initial.slots) 0 l.initial.slots;
 }
