@@ -13,6 +13,13 @@ pub(crate) struct Standing {
     inner: Option<Position>,
 }
 
+impl Standing {
+    /// The innermost block that is open.
+    pub(crate) fn innermost(self) -> Position {
+        self.inner.or(self.middle).unwrap_or(self.body)
+    }
+}
+
 /// Where a task with this frame stands; none if its body has ended, or too many blocks are open.
 pub(crate) fn standing_of(frame: &Frame) -> Option<Standing> {
     let open_blocks = &frame.body.as_ref()?.open_blocks;

@@ -9,14 +9,17 @@ use twe_base::{List, Memory};
 use twe_machine::State;
 use twe_program::Prog;
 
+/// For how many places of each declaration it is kept that a segment from there is short.
+const PLACES: usize = 4;
+
 /// Lets a run go on as long as there is only `main`, or each segment is known to be short. So it does not go on once a task was
 /// made whose first segment may be long: workers may run that one while others are made.
 #[derive(Drop)]
 pub(crate) struct UntilLong {
     // For each declaration of a task whether the first segment of such a task is known to be short.
     starts: List<bool>,
-    // For each declaration where a task of it stood whose next segment was found to be short, the latest one. In a loop that is
-    // where the next one stands too.
+    // For each declaration some places where a task of it stood whose next segment was found to be short. In a loop the next one
+    // stands there too.
     short_at: List<Option<Standing>>,
     // How many tasks were looked at when they were made. `main` is not.
     seen: u32,
@@ -29,7 +32,9 @@ impl UntilLong {
         let mut short_at = List::new(alloc);
         for task in p.tasks.as_slice() {
             starts.push(starts_brief(task))?;
-            short_at.push(None)?;
+            for _ in 0..PLACES {
+                short_at.push(None)?;
+            }
         }
         Ok(UntilLong {
             starts,
@@ -65,13 +70,13 @@ impl UntilLong {
         let Some(standing) = standing_of(&row.frame) else {
             return is_brief(p, &row.frame);
         };
-        let decl = row.frame.decl as usize;
-        if self.short_at.get(decl) == Some(&Some(standing)) {
+        let at = place_of(row.frame.decl, standing);
+        if self.short_at.get(at) == Some(&Some(standing)) {
             return true;
         }
         let short = is_brief(p, &row.frame);
-        if short && decl < self.short_at.len() {
-            self.short_at.set(decl, Some(standing));
+        if short && at < self.short_at.len() {
+            self.short_at.set(at, Some(standing));
         }
         short
     }
@@ -90,4 +95,11 @@ impl Lookout for UntilLong {
             Kind::Run => is_at_start(st, mv.task) || self.is_next_short(p, st, mv.task),
         }
     }
+}
+
+/// Where it is kept that a segment from there is short. Statements that follow one another have different places.
+fn place_of(decl: u32, standing: Standing) -> usize {
+    (decl as usize)
+        .saturating_mul(PLACES)
+        .saturating_add(standing.innermost().after % PLACES)
 }
