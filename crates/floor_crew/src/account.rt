@@ -71,6 +71,11 @@ impl Account {
         !self.is_fine && self.work >= self.due
     }
 
+    /// Whether it is known that tasks are short, so that none is worth a worker.
+    pub(crate) fn are_tasks_short(&self) -> bool {
+        self.is_fine
+    }
+
     /// Counts a move at rest that took so much fuel.
     pub(crate) fn count(&mut self, fuel: u64) {
         self.work = self.work.saturating_add(PER_MOVE).saturating_add(fuel);

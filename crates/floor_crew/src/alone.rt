@@ -1,7 +1,8 @@
 //! Moves of a run at rest, up to the point at which tasks may run beside each other.
 //!
 //! A task that may run alone runs its segments at rest, and so does one whose next segment is short, unless many others wait for
-//! the workers. All others wait for a round, unless the work since the last one has not paid for another.
+//! the workers. Once workers have found that tasks are short, each runs as soon as it may, so that few are held back. All others
+//! wait for a round, unless the work since the last one has not paid for another.
 ghost use Rattle.std.specs.Prelude.{◌≡◌, ◌∷◌, ◌++◌, [], OnOk};
 ghost use Rattle.twe_machine.specs.Legal.{MayMove};
 ghost use Rattle.twe_machine.specs.Runs.{entry_of};
@@ -80,7 +81,10 @@ fn look_at(
             take(setup, run, book, Move { kind, task })
         }
         Found::Held { by } => book.hold(task, by),
-        Found::Runs => book.add_running(task, is_next_brief(setup.p, &run.rest.state, task)),
+        Found::Runs => {
+            let short = book.account.are_tasks_short();
+            book.add_running(task, short || is_next_brief(setup.p, &run.rest.state, task))
+        }
         Found::Waits { on, next } => book.wait(task, on, next),
         Found::Over => Ok(()),
     }

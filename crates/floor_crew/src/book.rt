@@ -39,7 +39,7 @@ pub(crate) struct Book {
     waiters: BTreeMap<u32, u32>,
     // Beside each task those that were found held by it.
     held: BTreeMap<u32, VecDeque<u32>>,
-    // A task that may run, and whose next segment is short. It is run before another task is looked at.
+    // A task that may run, and whose next segment is short, or taken to be. It is run before another task is looked at.
     brief: Option<u32>,
     // The other tasks that may run.
     running: Vec<u32>,
@@ -162,7 +162,7 @@ impl Book {
         Ok(())
     }
 
-    /// Keeps a task that may run. `brief` says that its next segment is short.
+    /// Keeps a task that may run. `brief` says that its next segment is short, or taken to be.
     pub(crate) fn add_running(&mut self, task: u32, brief: bool) -> Result<(), Memory> {
         if brief && !self.are_many_waiting() {
             self.brief = Some(task);
