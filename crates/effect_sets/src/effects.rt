@@ -61,7 +61,7 @@ impl Summary {
             → IfOk result (λ summary. IsTrue (all_filled summary.effects)) }
         ensures kept { IsTrue (all_filled self.now.effects) → IfOk result (λ summary. summary ≡ self.now) }
     {
-        let mut effects = Effects::new(alloc);
+        let mut effects = Effects::with_capacity(alloc, self.effects.len())?;
         for effect in self.effects.as_slice() {
             effects.push(effect.fill(alloc, args)?)?;
         }
@@ -72,7 +72,7 @@ impl Summary {
     pub fn copy(&self, alloc: Global) -> Result<Summary, Memory>
         ensures { IfOk result (λ summary. summary ≡ self.now) }
     {
-        let mut effects = Effects::new(alloc);
+        let mut effects = Effects::with_capacity(alloc, self.effects.len())?;
         for effect in self.effects.as_slice() {
             effects.push(effect.copy(alloc)?)?;
         }
