@@ -71,7 +71,8 @@ impl Account {
         !self.is_fine && self.work >= self.due
     }
 
-    /// Whether it is known that tasks are short, so that none is worth a worker.
+    /// Whether no task is worth a worker: those on the last floor were short, or none ended there, and no segment was long since
+    /// then.
     pub(crate) fn are_tasks_short(&self) -> bool {
         self.is_fine
     }
