@@ -3,14 +3,11 @@ use Rattle.std.proofs.Common.{◌≡◌, ℕ, ◌+◌, ◌-◌, ◌^◌, ◌<◌
 use Rattle.std.proofs.Math.Seq.{get_or-append_seam}
 use Rattle.std.proofs.lemmas.Bool.{cases_lt, cases_Bool}
 use Rattle.std.proofs.lemmas.List.{get_or_append_left}
-use Rattle.std.specs.Ordering.{is_eq}
-use Rattle.std.specs.BTreeMap.{get, is_at}
-use Rattle.std.specs.declared.cmp.Ordering.{Ordering}
-use Rattle.std.specs.declared.cmp.Ordering.TheVariants.{Less, Equal, Greater}
+use Rattle.std.specs.HashMap.{get}
 use Rattle.prefix_tree.specs.declared.step.Step.{Step}
-use Rattle.prefix_tree.specs.inner.Order.{step_cmp}
+use Rattle.prefix_tree.specs.inner.Same.{step_eq}
 use Rattle.prefix_tree.specs.inner.Tables.{Tables, step_of, IsTree}
-use Rattle.prefix_tree.proofs.StepLemmas.{exact_step, step_itself}
+use Rattle.prefix_tree.proofs.StepLemmas.{step_from_eq, step_itself}
 use Rattle.prefix_tree.proofs.TreeLemmas.{step_there}
 
 -- the steps, and one more
@@ -35,68 +32,55 @@ step_of-cases steps s t n e =
     inr (last, cc))
     (cases_lt n (length steps))
 
--- what a map has for a step once it has a node for one
-
-is_eq-Equal : (o : Ordering) → is_eq o ≡ true → o ≡ Equal
-is_eq-Equal Less h = cc
-is_eq-Equal Equal h = refl
-is_eq-Equal Greater h = cc
-
-at_step : (s t : Step) → is_at (step_cmp s) t ≡ true → s ≡ t
-at_step s t h = exact_step s t (is_eq-Equal (step_cmp s t) h)
-
-at_itself : (s : Step) → is_at (step_cmp s) s ≡ true
-at_itself s = ap is_eq (step_itself s)
-
--- the tables once a node was added
+-- the tables once a node was added: the steps have one more, and the map has its node
 pub record IsAdded (old new : Tables) (s : Step) : Type 0 where
   pub steps : new.steps ≡ old.steps ++ Some s ∷ []
-  pub map : (t : Step) → get step_cmp new.children t ≡ cond (is_at (step_cmp s) t) (Some (length old.steps)) (get step_cmp old.children t)
+  pub map : (t : Step) → get step_eq new.children t ≡ cond (step_eq s t) (Some (length old.steps)) (get step_eq old.children t)
 
-found-old : (old new : Tables) (s : Step) → IsTree old → IsAdded old new s → get step_cmp old.children s ≡ None → (n : ℕ) (t : Step) → is_at (step_cmp s) t ≡ false → get step_cmp new.children t ≡ get step_cmp old.children t
+found-old : (old new : Tables) (s : Step) → IsTree old → IsAdded old new s → get step_eq old.children s ≡ None → (n : ℕ) (t : Step) → step_eq s t ≡ false → get step_eq new.children t ≡ get step_eq old.children t
 found-old old new s is added absent n t other =
-    added.map t ∙ ap (λ b. cond b (Some (length old.steps)) (get step_cmp old.children t)) other
+    added.map t ∙ ap (λ b. cond b (Some (length old.steps)) (get step_eq old.children t)) other
 
-found-new : (old new : Tables) (s : Step) → IsAdded old new s → (t : Step) → is_at (step_cmp s) t ≡ true → get step_cmp new.children t ≡ Some (length old.steps)
+found-new : (old new : Tables) (s : Step) → IsAdded old new s → (t : Step) → step_eq s t ≡ true → get step_eq new.children t ≡ Some (length old.steps)
 found-new old new s added t same =
-    added.map t ∙ ap (λ b. cond b (Some (length old.steps)) (get step_cmp old.children t)) same
+    added.map t ∙ ap (λ b. cond b (Some (length old.steps)) (get step_eq old.children t)) same
 
-found_to : (old new : Tables) (s : Step) → IsTree old → IsAdded old new s → get step_cmp old.children s ≡ None → (n : ℕ) (t : Step) → get step_cmp new.children t ≡ Some n → step_of new.steps n ≡ Some t
+found_to : (old new : Tables) (s : Step) → IsTree old → IsAdded old new s → get step_eq old.children s ≡ None → (n : ℕ) (t : Step) → get step_eq new.children t ≡ Some n → step_of new.steps n ≡ Some t
 found_to old new s is added absent n t h =
     let steps = ap (λ (ss : List (Option Step)). step_of ss n) added.steps in
     ⊎_elim
-    (λ (same : is_at (step_cmp s) t ≡ true).
-    let one = at_step s t same in
+    (λ (same : step_eq s t ≡ true).
+    let one = step_from_eq s t same in
     let here = found-new old new s added t same in
     let number : length old.steps ≡ n = cc in
     let new_step = step_of-new old.steps (Some s) in
     let at = ap (step_of (old.steps ++ Some s ∷ [])) number in
     cc)
-    (λ (other : is_at (step_cmp s) t ≡ false).
+    (λ (other : step_eq s t ≡ false).
     let was = sym (found-old old new s is added absent n t other) ∙ h in
     let step = (is.found n t).0 was in
     steps ∙ step_of-old old.steps (Some s) n (step_there old.steps n t step) ∙ step)
-    (cases_Bool (is_at (step_cmp s) t))
+    (cases_Bool (step_eq s t))
 
-found_from : (old new : Tables) (s : Step) → IsTree old → IsAdded old new s → get step_cmp old.children s ≡ None → (n : ℕ) (t : Step) → step_of new.steps n ≡ Some t → get step_cmp new.children t ≡ Some n
+found_from : (old new : Tables) (s : Step) → IsTree old → IsAdded old new s → get step_eq old.children s ≡ None → (n : ℕ) (t : Step) → step_of new.steps n ≡ Some t → get step_eq new.children t ≡ Some n
 found_from old new s is added absent n t h =
     let steps = ap (λ (ss : List (Option Step)). step_of ss n) added.steps in
     ⊎_elim
     (λ (was : step_of old.steps n ≡ Some t).
     let had = (is.found n t).1 was in
     ⊎_elim
-    (λ (same : is_at (step_cmp s) t ≡ true).
-    let one = ap (get step_cmp old.children) (at_step s t same) in
+    (λ (same : step_eq s t ≡ true).
+    let one = ap (get step_eq old.children) (step_from_eq s t same) in
     cc)
-    (λ (other : is_at (step_cmp s) t ≡ false). found-old old new s is added absent n t other ∙ had)
-    (cases_Bool (is_at (step_cmp s) t)))
+    (λ (other : step_eq s t ≡ false). found-old old new s is added absent n t other ∙ had)
+    (cases_Bool (step_eq s t)))
     (λ last.
-    found-new old new s added t (subst (λ (u : Step). is_at (step_cmp s) u ≡ true) last.1 (at_itself s))
+    found-new old new s added t (subst (λ (u : Step). step_eq s u ≡ true) last.1 (step_itself s))
     ∙ ap Some (sym last.0))
     (step_of-cases old.steps s t n (sym steps ∙ h))
 
 -- a tree stays one
-pub IsTree-added : (old new : Tables) (s : Step) → IsTree old → s.from < length old.steps → get step_cmp old.children s ≡ None → length old.steps < 2 ^ 32 - 1 → IsAdded old new s → IsTree new
+pub IsTree-added : (old new : Tables) (s : Step) → IsTree old → s.from < length old.steps → get step_eq old.children s ≡ None → length old.steps < 2 ^ 32 - 1 → IsAdded old new s → IsTree new
 IsTree-added old new s is from_there absent room added =
     let more = ap length added.steps ∙ length-append old.steps (Some s ∷ []) in
     let some_old = is.some in

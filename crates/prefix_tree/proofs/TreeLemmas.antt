@@ -2,12 +2,12 @@
 use Rattle.std.proofs.Common.{◌≡◌, ℕ, zero, suc, ◌+◌, ◌<◌, List, [], ◌∷◌, ◌++◌, length, Option, Some, None, IsSome, MatchOption, refl, sym, ap, subst, ◌∙◌, ◌⊎◌, inl, inr, ⊎_elim, arith, zero-add}
 use Rattle.std.proofs.lemmas.Bool.{cases_lt, cases_eq}
 use Rattle.std.proofs.lemmas.List.{get_or_past}
-use Rattle.std.specs.BTreeMap.{get}
+use Rattle.std.specs.HashMap.{get}
 use Rattle.prefix_tree.specs.declared.step.Step.{Step}
 use Rattle.prefix_tree.specs.declared.part.Part.{Part}
 use Rattle.prefix_tree.specs.Prefix.{IsPrefix}
 use Rattle.prefix_tree.specs.Nodes.{path_of, IsNode, IsParent, IsTreeOfPaths}
-use Rattle.prefix_tree.specs.inner.Order.{step_cmp}
+use Rattle.prefix_tree.specs.inner.Same.{step_eq}
 use Rattle.prefix_tree.specs.inner.Tables.{Tables, step_of, path_by, paths_after, paths, IsTree}
 use Rattle.prefix_tree.proofs.StepLemmas.{step_is}
 use Rattle.prefix_tree.proofs.PrefixLemmas.{IsPrefix-snoc, IsPrefix-nil}
@@ -51,7 +51,7 @@ same_step tree tree_is m n s t a b from part =
     let whole = step_is s t from part in
     let to_m = (tree_is.found m s).1 a in
     let to_n = (tree_is.found n t).1 b in
-    let same = subst (λ (u : Step). get step_cmp tree.children u ≡ Some m) whole to_m in
+    let same = subst (λ (u : Step). get step_eq tree.children u ≡ Some m) whole to_m in
     cc
 
 once_below : (tree : Tables) → IsTree tree → (bound m n : ℕ) → m < bound → m < length tree.steps → n < length tree.steps → path_of (paths tree) m ≡ path_of (paths tree) n → m ≡ n
@@ -124,7 +124,7 @@ IsTreeOfPaths-paths tree t = record {
 }
 
 -- a step's node is the only one with its path
-pub child_path : (tree : Tables) → IsTree tree → (s : Step) (n : ℕ) → get step_cmp tree.children s ≡ Some n → (n < length (paths tree)) × (path_of (paths tree) n ≡ path_of (paths tree) s.from ++ s.part ∷ [])
+pub child_path : (tree : Tables) → IsTree tree → (s : Step) (n : ℕ) → get step_eq tree.children s ≡ Some n → (n < length (paths tree)) × (path_of (paths tree) n ≡ path_of (paths tree) s.from ++ s.part ∷ [])
 child_path tree t s n e =
     let all = length-paths tree in
     let step = (t.found n s).0 e in
@@ -141,7 +141,7 @@ same_end tree tree_is n s t at there same =
     step_is t s (path_of-once tree tree_is t.from s.from (omega arith) there both.0) both.1
 
 -- where no step leads to a path, it is no node's
-pub no_child : (tree : Tables) → IsTree tree → (s : Step) → s.from < length (paths tree) → get step_cmp tree.children s ≡ None → ¬ IsNode (paths tree) (path_of (paths tree) s.from ++ s.part ∷ [])
+pub no_child : (tree : Tables) → IsTree tree → (s : Step) → s.from < length (paths tree) → get step_eq tree.children s ≡ None → ¬ IsNode (paths tree) (path_of (paths tree) s.from ++ s.part ∷ [])
 no_child tree t s there absent node =
     let all = length-paths tree in
     let inside = node.1 in
@@ -151,7 +151,7 @@ no_child tree t s there absent node =
     nil-snoc _ _ (sym root ∙ node.2))
     (λ at_n.
     let to_n = (t.found node.0 at_n.0).1 at_n.1 in
-    let same = ap (get step_cmp tree.children) (same_end tree t node.0 s at_n.0 at_n.1 there node.2) in
+    let same = ap (get step_eq tree.children) (same_end tree t node.0 s at_n.0 at_n.1 there node.2) in
     cc)
     (step_cases tree t node.0 (omega arith))
 
@@ -182,7 +182,7 @@ pub none-root : (tree : Tables) → IsTree tree → (n : ℕ) → n < length tre
 none-root tree t n there none = ⊎_elim (λ root. root) (λ at. let step = at.1 in cc) (step_cases tree t n there)
 
 -- what the map has for a step is the node right below by its part
-pub child-matches : (tree : Tables) → IsTree tree → (nodes : List (List Part)) → paths tree ≡ nodes → (s : Step) → s.from < length nodes → (o : Option ℕ) → o ≡ get step_cmp tree.children s
+pub child-matches : (tree : Tables) → IsTree tree → (nodes : List (List Part)) → paths tree ≡ nodes → (s : Step) → s.from < length nodes → (o : Option ℕ) → o ≡ get step_eq tree.children s
     → MatchOption o (¬ IsNode nodes (path_of nodes s.from ++ s.part ∷ [])) (λ n. (n < length nodes) × (path_of nodes n ≡ path_of nodes s.from ++ s.part ∷ []))
 child-matches tree t nodes is s there None e =
     let all = ap length is in

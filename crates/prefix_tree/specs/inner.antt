@@ -1,3 +1,3 @@
 -- What only private clauses and invariants cite.
-pub mod Order
+pub mod Same
 pub mod Tables

@@ -3,7 +3,7 @@
 use crate::part::Part;
 
 /// A step from a node to one right below it.
-#[derive(Clone, Copy, Debug, PartialEq, Eq, PartialOrd, Ord)]
+#[derive(Clone, Copy, Debug, PartialEq, Eq, Hash)]
 pub(crate) struct Step {
     /// The node from which the step leads down.
     pub from: u32,

@@ -6,8 +6,8 @@ ghost use Rattle.prefix_tree.specs.Growth.{Grows};
 use crate::part::Part;
 use crate::step::Step;
 use std::alloc::Global;
-use std::collections::BTreeMap;
-use std::collections::btree_map::Entry;
+use std::collections::HashMap;
+use std::collections::hash_map::Entry;
 use std::marker::Model;
 use twe_base::Memory;
 
@@ -18,7 +18,7 @@ pub struct PrefixTree {
     /// For each node the step that leads to it; the root has none.
     steps: Vec<Option<Step>>,
     /// The node that each step leads to.
-    children: BTreeMap<Step, u32>,
+    children: HashMap<Step, u32>,
 }
 
 impl Model for PrefixTree {
@@ -40,7 +40,7 @@ impl PrefixTree {
     {
         Ok(PrefixTree {
             steps: vec![in alloc; None]?,
-            children: BTreeMap::new(alloc),
+            children: HashMap::new(alloc),
         })
     }
 
@@ -82,7 +82,8 @@ impl PrefixTree {
     }
 
     /// Returns the node right below `from` whose path ends in `part`, and adds it if it isn't there. It fails if memory
-    /// runs out, or if 32 bits cannot number the nodes.
+    /// runs out, or if there are too many nodes: for 32 bits to number them, or for the map, which has some two billion
+    /// at most.
     pub fn child_or_new(&mut self, from: u32, part: Part) -> Result<u32, Memory>
         requires { from < length self.old }
         ensures there { IfOk result (λ n. n < length self.new) }
