@@ -92,8 +92,8 @@ impl Shape {
         self.below[n as usize].as_slice()
     }
 
-    /// The node right below `n` whose path ends with this element, if there is one. It takes no memory, and time near
-    /// logarithmic in the number of nodes.
+    /// The node right below `n` whose path ends with this element, if there is one. It takes no memory, and the node is found by
+    /// a hash of the step to it.
     pub fn child(&self, n: u32, elem: Elem) -> Option<u32>
         requires { n < length self.now }
         ensures { MatchOption result (¬ IsNode self.now (path_of self.now n ++ elem ∷ []))
