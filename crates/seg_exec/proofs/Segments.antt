@@ -1,18 +1,21 @@
 -- A run of the evaluator that begins with what remains in a frame is the segment of that frame.
-use Rattle.std.proofs.Common.{◌≡◌, ℕ, ◌+◌, ℤ, pos, List, [], ◌++◌, Some, Result, Ok, Err, IfOk, sym, ap, ◌∙◌, subst, arith, Option, None}
+use Rattle.std.proofs.Common.{◌≡◌, ℕ, ◌+◌, ℤ, pos, List, [], ◌++◌, Some, Result, Ok, Err, IfOk, refl, sym, ap, ◌∙◌, subst, arith, Option, None}
 use Rattle.std.specs.Prelude.{slice_get}
 use Rattle.twe_program.specs.Program.{Program}
 use Rattle.seg_exec.specs.declared.frame.OpenBody.{OpenBody}
 use Rattle.seg_exec.specs.declared.frame.Frame.{Frame}
+use Rattle.seg_exec.specs.declared.frame.Next.{Next}
+use Rattle.seg_exec.specs.declared.operation.Operation.{Operation}
+use Rattle.seg_exec.specs.declared.operation.Operation.TheVariants as operations
 use Rattle.seg_exec.specs.declared.steps.machine.Machine.{Machine}
 use Rattle.seg_exec.specs.declared.stop.Stop.{Stop}
 use Rattle.seg_exec.specs.declared.steps.request.Ending.{Ending}
-use Rattle.seg_exec.specs.declared.steps.request.Ending.TheVariants.{Returned, Faulted}
+use Rattle.seg_exec.specs.declared.steps.request.Ending.TheVariants.{Returned, Faulted, Suspended}
 use Rattle.seg_exec.specs.inner.steps.Endings.{suspended_at}
 use Rattle.seg_exec.specs.Access.{MayAll, Ways, after, printed}
 use Rattle.seg_exec.specs.Meaning.{body_of, done_within}
 use Rattle.seg_exec.specs.Remaining.{resumed}
-use Rattle.seg_exec.specs.Segment.{Stopped, stopped_by, store_at, flow_of, CarriesOut, MayCarryOut}
+use Rattle.seg_exec.specs.Segment.{Stopped, stopped_by, store_at, flow_of, operation_next, operation_out, operation_stop, CarriesOut, MayCarryOut}
 use Rattle.seg_exec.specs.Store.{Store, Flow, goes, returns, fails, stops}
 use Rattle.seg_exec.specs.inner.Finished.{finished}
 use Rattle.seg_exec.specs.inner.steps.Reached.{Finishes, MayGoOn, over, standing}
@@ -75,8 +78,25 @@ module _ (p : Program) where
       let other = flow_so frame opened start cells is in
       stopped_so frame flow ending s (once p other.0 ends.0 (over start cells []) (outcome_of p flow) (Over ending s) (is_over flow) tt other.1 ends.1)
 
+  -- the end of a run sets the body anew, and so it does in a frame whose body was taken
+  next_so : (frame : Frame) (operation : Operation) → operation_next (record frame { body = None }) operation ≡ operation_next frame operation
+  next_so frame (operations.Make future task args spawned place) = refl
+  next_so frame (operations.Wait future join into) = refl
+
+  stop_so : (frame : Frame) (operation : Operation) → operation_stop p (record frame { body = None }) operation ≡ operation_stop p frame operation
+  stop_so frame (operations.Make future task args spawned place) = refl
+  stop_so frame (operations.Wait future join into) = refl
+
+  finished_so : (frame : Frame) (vars : List ℤ) (ending : Ending) → finished p (record frame { body = None }) vars ending ≡ finished p frame vars ending
+  finished_so frame vars (Returned value) = refl
+  finished_so frame vars (Faulted cause place) = refl
+  finished_so frame vars (Suspended held) =
+      let kept : Next → Frame = λ next. record frame { body = Some (record { vars = vars; open_blocks = held.positions }); next = next; out = operation_out held.operation frame.out } in
+      ap (λ (next : Next). (kept next, operation_stop p (record frame { body = None }) held.operation)) (next_so frame held.operation)
+      ∙ ap (λ (stop : Stop). (kept (operation_next frame held.operation), stop)) (stop_so frame held.operation)
+
   module _ {C : Type 0} (ways : Ways C) where
-    pub carries_out : (frame : Frame) (from to : Machine) (old_cells new_cells : C) (prints : List ℤ) (ending : Ending) (new_frame : Frame) (stop : Stop)
+    carries_out : (frame : Frame) (from to : Machine) (old_cells new_cells : C) (prints : List ℤ) (ending : Ending) (new_frame : Frame) (stop : Stop)
         → config_at p frame frame.body ≡ Some (config_of from)
         → Finishes p ways (standing from old_cells frame.prints) ending (standing to new_cells prints)
         → (new_frame, stop) ≡ finished p (ran frame prints to.fuel) to.vars.active ending
@@ -89,6 +109,19 @@ module _ (p : Program) where
           ∙ ap (λ (all : List ℤ). let d = finished p (ran frame all to.fuel) to.vars.active ending in record { frame = d.0; cells = after cells f.accesses; accesses = f.accesses; stop = d.1 }) (sym f.prints)
           ∙ ap (λ (d : Frame × Stop). record { frame = d.0; cells = after cells f.accesses; accesses = f.accesses; stop = d.1 }) (sym done);
     }
+
+    -- the same from a frame whose body was taken
+    pub carries_taken : (frame taken : Frame) (from to : Machine) (old_cells new_cells : C) (prints : List ℤ) (ending : Ending) (new_frame : Frame) (stop : Stop)
+        → taken ≡ record frame { body = None }
+        → config_at p frame frame.body ≡ Some (config_of from)
+        → Finishes p ways (standing from old_cells taken.prints) ending (standing to new_cells prints)
+        → (new_frame, stop) ≡ finished p (ran taken prints to.fuel) to.vars.active ending
+        → CarriesOut p ways.rule frame old_cells stop new_frame new_cells
+    carries_taken frame taken from to old_cells new_cells prints ending new_frame stop was is f done =
+        carries_out frame from to old_cells new_cells prints ending new_frame stop is
+        (subst (λ (t : Frame). Finishes p ways (standing from old_cells t.prints) ending (standing to new_cells prints)) was f)
+        (done ∙ ap (λ (t : Frame). finished p (ran t prints to.fuel) to.vars.active ending) was
+        ∙ finished_so (ran frame prints to.fuel) to.vars.active ending)
 
     may_end : (frame : Frame) (cells : C) (from : Moment) (f : Flow) → MayAll ways cells (stopped_by p frame f).accesses → (n : ℕ) × (run p n from ≡ outcome_of p f)
         → (n : ℕ) × (ending : Ending) × (end : Store) × (run p n from ≡ Over ending end) × MayAll ways cells end.accesses

@@ -1,18 +1,18 @@
 //! The execution of one segment of a task.
-ghost use Rattle.std.specs.Prelude.{◌≡◌, IfOk, OnOk, length, option_map, slice_get};
+ghost use Rattle.std.specs.Prelude.{◌≡◌, IfOk, OnOk, None, length, option_map, slice_get};
 ghost use Rattle.twe_program.specs.Program.{cell_count};
 ghost use Rattle.seg_exec.specs.Access.{ways_of};
 ghost use Rattle.seg_exec.specs.Segment.{CarriesOut, HasRoomToSpawn, IsSegment, MayCarryOut};
 ghost use Rattle.seg_exec.specs.Segment.{closing_stop, operation_next, operation_out, operation_stop, task_of};
 ghost use Rattle.seg_exec.specs.inner.Finished.{ended_with, finished};
-ghost use Rattle.seg_exec.specs.inner.steps.Unfolded.{config_at};
+ghost use Rattle.seg_exec.specs.inner.steps.Unfolded.{body_config, config_at};
 ghost use Rattle.seg_exec.specs.inner.steps.Views.{config_of};
 
 use crate::body::statements;
 use crate::cells::Cells;
 use crate::children::Children;
 use crate::entry::{effects_at, entry_frame};
-use crate::frame::{Frame, Next, OpenBody};
+use crate::frame::{Frame, Next, OpenBody, Position};
 use crate::operation::Operation;
 use crate::steps::continuation::{OpenBlock, Suspension};
 use crate::steps::frames::Frames;
@@ -154,7 +154,36 @@ fn finish(
     }
 }
 
-/// The evaluator with what remains of the body of a frame; none if the body has ended.
+/// The evaluator with what remains of a body of a frame: these are its variables and its open blocks.
+fn machine_with<'a>(
+    alloc: Global,
+    p: &'a Prog,
+    frame: &Frame,
+    vars: Ints,
+    open_blocks: &[Position],
+) -> Result<Machine<'a>, Memory>
+    ensures { IfOk result (λ machine. config_of machine
+        ≡ body_config p.now frame.now (record { vars = vars; open_blocks = open_blocks.now })) }
+{
+    let mut machine = Machine {
+        work: Frames::new(alloc),
+        operands: Pushdown::new(alloc),
+        vars: Variables::new(vars),
+        fuel: frame.fuel,
+        open: OpenBlock {
+            block: 0,
+            at: 0,
+            stmts: &[],
+        },
+        ending: None,
+    };
+    let decl = p.tasks.get(frame.decl as usize);
+    machine.unfold(statements(decl), open_blocks)?;
+    Ok(machine)
+}
+
+/// The evaluator with what remains of the body of a frame; none if the body has ended. The frame keeps its variables, and the
+/// evaluator has a copy of them.
 pub(crate) fn machine_at<'a>(
     alloc: Global,
     p: &'a Prog,
@@ -165,20 +194,25 @@ pub(crate) fn machine_at<'a>(
     let Some(body) = &frame.body else {
         return Ok(None);
     };
-    let mut machine = Machine {
-        work: Frames::new(alloc),
-        operands: Pushdown::new(alloc),
-        vars: Variables::new(body.vars.copy(alloc)?),
-        fuel: frame.fuel,
-        open: OpenBlock {
-            block: 0,
-            at: 0,
-            stmts: &[],
-        },
-        ending: None,
+    let vars = body.vars.copy(alloc)?;
+    let machine = machine_with(alloc, p, frame, vars, body.open_blocks.as_slice())?;
+    Ok(Some(machine))
+}
+
+/// The same, with the body taken out of the frame, so that the evaluator has its variables themselves.
+fn take_machine<'a>(
+    alloc: Global,
+    p: &'a Prog,
+    frame: &mut Frame,
+) -> Result<Option<Machine<'a>>, Memory>
+    ensures machine { IfOk result (λ machine. option_map config_of machine ≡ config_at p.now frame.old frame.old.body) }
+    ensures frame { IfOk result (λ machine. frame.new ≡ record frame.old { body = None }) }
+{
+    let Some(body) = frame.body.take() else {
+        return Ok(None);
     };
-    let decl = p.tasks.get(frame.decl as usize);
-    machine.unfold(statements(decl), body.open_blocks.as_slice())?;
+    let OpenBody { vars, open_blocks } = body;
+    let machine = machine_with(alloc, p, frame, vars, open_blocks.as_slice())?;
     Ok(Some(machine))
 }
 
@@ -199,7 +233,7 @@ pub fn run_segment<C: Cells>(
     ensures segment { IfOk result (λ stop. CarriesOut p.now C.rule frame.old cells.old stop frame.new cells.new) }
     ensures room { IfOk result (λ stop. HasRoomToSpawn stop frame.new) }
 {
-    match machine_at(alloc, p, frame)? {
+    match take_machine(alloc, p, frame)? {
         None => {
             let value = frame.value;
             Ok(end(alloc, frame, value))
