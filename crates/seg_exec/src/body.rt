@@ -52,11 +52,16 @@ pub(crate) fn start(decl: Option<&Decl>, vars: &mut Variables) -> Result<(), Mem
     push_zeros(vars, locals)
 }
 
-/// The variables of a body at its start: the arguments, and then 0 for each local.
-pub(crate) fn vars_at_start(alloc: Global, decl: Option<&Decl>, args: Ints) -> Result<Ints, Memory>
-    ensures { IfOk result (λ vars. vars ≡ vars_at_start (option_copied decl.entry) args) }
+/// The variables of a body at its start: the arguments, and then 0 for each local. They take one piece of memory.
+pub(crate) fn vars_at_start(
+    alloc: Global,
+    decl: Option<&Decl>,
+    args: &[i32],
+) -> Result<Ints, Memory>
+    ensures { IfOk result (λ vars. vars ≡ vars_at_start (option_copied decl.entry) args.now) }
 {
-    let mut vars = Variables::new(args);
+    let mut vars = Variables::new(Ints::with_capacity(alloc, var_count(decl))?);
+    vars.push_all(args)?;
     start(decl, &mut vars)?;
     vars.into_active(alloc)
 }

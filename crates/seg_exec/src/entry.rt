@@ -23,10 +23,10 @@ fn future_count(decl: Option<&Decl>) -> usize
 }
 
 /// A body before its first statement.
-fn entry_body(alloc: Global, decl: Option<&Decl>, args: Ints) -> Result<OpenBody, Memory>
-    ensures { IfOk result (λ body. body ≡ entry_body (option_copied decl.entry) args) }
+fn entry_body(alloc: Global, decl: Option<&Decl>, args: &[i32]) -> Result<OpenBody, Memory>
+    ensures { IfOk result (λ body. body ≡ entry_body (option_copied decl.entry) args.now) }
 {
-    let mut open_blocks = List::new(alloc);
+    let mut open_blocks = List::with_capacity(alloc, 1)?;
     open_blocks.push(Position { block: 0, after: 0 })?;
     Ok(OpenBody {
         vars: vars_at_start(alloc, decl, args)?,
@@ -35,8 +35,8 @@ fn entry_body(alloc: Global, decl: Option<&Decl>, args: Ints) -> Result<OpenBody
 }
 
 /// The frame of a task of a declaration before its first segment.
-fn frame_of(alloc: Global, decl: Option<&Decl>, task: u32, args: Ints) -> Result<Frame, Memory>
-    ensures { IfOk result (λ frame. frame ≡ frame_of (option_copied decl.entry) task args) }
+fn frame_of(alloc: Global, decl: Option<&Decl>, task: u32, args: &[i32]) -> Result<Frame, Memory>
+    ensures { IfOk result (λ frame. frame ≡ frame_of (option_copied decl.entry) task args.now) }
 {
     let body = entry_body(alloc, decl, args)?;
     let futures = vec![in alloc; None; future_count(decl)]?;
@@ -53,12 +53,20 @@ fn frame_of(alloc: Global, decl: Option<&Decl>, task: u32, args: Ints) -> Result
     })
 }
 
+/// The frame of a task of this declaration with these arguments, which it copies, before its first segment. Its number and
+/// its fuel are 0; whoever makes the task sets them.
+pub(crate) fn frame_with(alloc: Global, p: &Prog, task: u32, args: &[i32]) -> Result<Frame, Memory>
+    ensures { IfOk result (λ frame. frame ≡ entry_frame p.now task args.now) }
+{
+    frame_of(alloc, p.tasks.get(task as usize), task, args)
+}
+
 /// The frame of a task of this declaration with these arguments, before its first segment. Its number and its fuel are 0;
 /// whoever makes the task sets them.
 pub fn entry_frame(alloc: Global, p: &Prog, task: u32, args: Ints) -> Result<Frame, Memory>
     ensures { IfOk result (λ frame. frame ≡ entry_frame p.now task args) }
 {
-    frame_of(alloc, p.tasks.get(task as usize), task, args)
+    frame_with(alloc, p, task, args.as_slice())
 }
 
 /// Each number as a literal index.

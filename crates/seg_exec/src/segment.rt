@@ -11,7 +11,7 @@ ghost use Rattle.seg_exec.specs.inner.steps.Views.{config_of};
 use crate::body::statements;
 use crate::cells::Cells;
 use crate::children::Children;
-use crate::entry::{effects_at, entry_frame};
+use crate::entry::{effects_at, frame_with};
 use crate::frame::{Frame, Next, OpenBody, Position};
 use crate::operation::Operation;
 use crate::steps::continuation::{OpenBlock, Suspension};
@@ -82,7 +82,7 @@ fn stop_of(alloc: Global, p: &Prog, frame: &Frame, operation: Operation) -> Resu
             spawned,
             place,
         } => Ok(Stop::Make {
-            child: entry_frame(alloc, p, task, args.copy(alloc)?)?,
+            child: frame_with(alloc, p, task, args.as_slice())?,
             effects: effects_at(alloc, p, task, &args)?,
             args,
             spawned,
