@@ -1,11 +1,11 @@
-//! The words and slots of a floor that is closed.
-ghost use Rattle.std.specs.Prelude.{◌≡◌, ◌<◌, ◌≤◌, ◌+◌, ◌++◌, ℕ, false, map, take, vec_len, vec_capacity, slice_index_or, IfOk};
+//! A floor that is closed, and the tasks that lay in its slots.
+ghost use Rattle.std.specs.Prelude.{◌≡◌, ◌<◌, ◌≤◌, ◌+◌, ◌++◌, ◌∷◌, [], ℕ, false, map, take, vec_len, vec_capacity, slice_index_or, IfOk};
 ghost use Rattle.core.specs.Mem.Slots.{IsFull, slots_filled, slots_items, slots_len};
 ghost use Rattle.core.specs.Mem.Slots.Ownership.{Filled};
 ghost use Rattle.floor_table.specs.declared.view.SeatKind.TheVariants.{Main};
 ghost use Rattle.floor_table.specs.Holds.{HasGivenAll};
-ghost use Rattle.floor_table.specs.Shown.{EndedQuiet};
-ghost use Rattle.task_floor.specs.inner.Emptying.{task_in};
+ghost use Rattle.task_floor.specs.inner.Emptying.{EndedWith, task_in};
+ghost use Rattle.task_floor.specs.steps.inner.Reading.{held_in};
 
 use crate::floor::{Floor, Stand};
 use atomic_table::Closed;
@@ -14,76 +14,64 @@ use floor_table::{KeptSlot, Named};
 use std::alloc::Global;
 use twe_base::{List, Memory};
 
-/// The words of the floor, without those of nodes, and what lies in the slots of tasks.
-#[derive(Drop)]
+/// The table of a floor that is closed, of which only the words are left, and the tasks that were made, in their order.
 pub(crate) struct Emptied {
-    pub words: List<u64>,
-    pub slots: List<Option<KeptSlot>>,
+    pub table: Closed<TreeSlot, Global>,
+    pub tasks: List<KeptSlot>,
 }
 
 impl<N: Named + Planted> Floor<N> {
-    /// Closes the floor and moves all out of it. The records at the nodes are dropped.
+    /// Closes the floor and moves the tasks out of it. The records at the nodes are dropped.
     pub(crate) fn empty(self, alloc: Global, stand: Stand) -> Result<Emptied, Memory>
         requires here { stand.table_id ≡ self }
         requires main { stand.me.0.floor.kind ≡ Main }
         requires alone { (stand.me.0.floor.out ≡ 0) × HasGivenAll stand.me.0.floor }
-        ensures { IfOk result (λ left. EndedQuiet N.prog N.lim stand.me.0.floor left.words left.slots) }
+        ensures full { IfOk result (λ left. IsFull left.table.words) }
+        ensures empty { IfOk result (λ left. (k : ℕ) → k < slots_len left.table.slots
+            → slice_index_or (slots_filled left.table.slots) k false ≡ false) }
+        ensures ended { IfOk result
+            (λ left. EndedWith N.prog N.lim stand.me.0.floor (slots_items left.table.words) left.tasks) }
     {
-        let word_count = self.words;
         let task_count = self.tasks;
-        let mut words = Vec::with_capacity(alloc, word_count)?;
-        let mut slots = Vec::with_capacity(alloc, task_count)?;
-        let mut closed = self.close(stand);
-        copy_words(&closed, word_count, &mut words);
-        take_tasks(&mut closed, task_count, &mut slots);
-        drop_nodes(&mut closed, task_count);
-        closed.free();
+        let mut tasks = Vec::with_capacity(alloc, task_count)?;
+        let mut table = self.close(stand);
+        take_tasks(&mut table, task_count, &mut tasks);
+        drop_nodes(&mut table, task_count);
         Ok(Emptied {
-            words: List::from(words),
-            slots: List::from(slots),
+            table,
+            tasks: List::from(tasks),
         })
     }
 }
 
-/// Copies the first `count` words, for which there is room.
-fn copy_words(closed: &Closed<TreeSlot, Global>, count: usize, words: &mut Vec<u64>)
-    requires full { IsFull closed.now.words }
-    requires within { count ≤ slots_len closed.now.words }
-    requires room { vec_len words.old + count ≤ vec_capacity words.old }
-    ensures { words.new.items ≡ words.old.items ++ take count (slots_items closed.now.words) }
-{
-    for i in 0..count {
-        words.push_reserved(closed.word(i));
-    }
-}
-
 /// Moves what lies in the first `count` slots, those of tasks, into a vector that has room for it.
-fn take_tasks(
-    closed: &mut Closed<TreeSlot, Global>,
-    count: usize,
-    slots: &mut Vec<Option<KeptSlot>>,
-)
+fn take_tasks(closed: &mut Closed<TreeSlot, Global>, count: usize, tasks: &mut Vec<KeptSlot>)
     requires full { IsFull closed.old.slots }
     requires within { count ≤ slots_len closed.old.slots }
-    requires room { vec_len slots.old + count ≤ vec_capacity slots.old }
-    ensures items { slots.new.items ≡ slots.old.items ++ map task_in (take count (slots_items closed.old.slots)) }
+    requires room { vec_len tasks.old + count ≤ vec_capacity tasks.old }
+    ensures items { tasks.new.items ≡ tasks.old.items ++ held_in (map task_in (take count (slots_items closed.old.slots))) }
+    ensures words { closed.new.words ≡ closed.old.words }
     ensures size { slots_len closed.new.slots ≡ slots_len closed.old.slots }
     ensures empty { (k : ℕ) → k < count → slice_index_or (slots_filled closed.new.slots) k false ≡ false }
     ensures others { Filled (slots_filled closed.new.slots) count (slots_len closed.new.slots) }
 {
     for i in 0..count {
-        slots.push_reserved(task_in(closed.take(i)));
+        add_task(tasks, closed.take(i));
     }
 }
 
-/// What lies in the slot of a task; nothing if the slot is none of a task.
-fn task_in(slot: TreeSlot) -> Option<KeptSlot>
-    ensures { result ≡ task_in slot }
+/// Adds what lies in a slot to a vector that has room for it, if it is the slot of a task and not empty.
+fn add_task(tasks: &mut Vec<KeptSlot>, slot: TreeSlot)
+    requires { vec_len tasks.old < vec_capacity tasks.old }
+    ensures items { tasks.new.items ≡ tasks.old.items ++ held_in (task_in slot ∷ []) }
+    ensures count { vec_len tasks.new ≤ vec_len tasks.old + 1 }
+    ensures room { vec_capacity tasks.new ≡ vec_capacity tasks.old }
 {
     match slot {
-        TreeSlot::Task(slot) => slot,
-        TreeSlot::Node(_content) => None,
-        TreeSlot::Errand(_) => None,
+        TreeSlot::Task(Some(kept)) => tasks.push_reserved(kept),
+        TreeSlot::Task(None) => {}
+        TreeSlot::Node(_content) => {}
+        TreeSlot::Errand(_) => {}
     }
 }
 
@@ -92,7 +80,9 @@ fn drop_nodes(closed: &mut Closed<TreeSlot, Global>, first: usize)
     requires within { first ≤ slots_len closed.old.slots }
     requires empty { (k : ℕ) → k < first → slice_index_or (slots_filled closed.old.slots) k false ≡ false }
     requires others { Filled (slots_filled closed.old.slots) first (slots_len closed.old.slots) }
-    ensures { (k : ℕ) → k < slots_len closed.new.slots → slice_index_or (slots_filled closed.new.slots) k false ≡ false }
+    ensures words { closed.new.words ≡ closed.old.words }
+    ensures empty { (k : ℕ) → k < slots_len closed.new.slots
+        → slice_index_or (slots_filled closed.new.slots) k false ≡ false }
 {
     for i in first..closed.slot_count() {
         let _content = closed.take(i);

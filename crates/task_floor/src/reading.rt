@@ -1,83 +1,62 @@
-//! The parts of a state that words and slots show.
-ghost use Rattle.std.specs.Prelude.{◌≡◌, ◌<◌, ◌≤◌, ◌+◌, ◌*◌, ◌^◌, ℕ, ℤ, false, length, slice_index_or, Some, slice_get, ◌++◌, IfOk, OnOk};
+//! The parts of a state that the words of a closed floor and its tasks show.
+ghost use Rattle.std.specs.Prelude.{◌≡◌, ◌<◌, ◌≤◌, ◌+◌, ◌*◌, ◌^◌, ℕ, length, IfOk};
+ghost use Rattle.core.specs.Mem.Slots.{IsFull, slots_items, slots_len};
 ghost use lib.ListN.{get_elem?};
-ghost use Rattle.twe_machine.specs.declared.state.TaskRow.{TaskRow};
-ghost use Rattle.seg_journal.specs.declared.journal.Entry.{Entry};
 ghost use Rattle.floor_rule.specs.Shown.{first_fault_in, row_by, status_by, value_by};
 ghost use Rattle.floor_table.specs.Layout.{cell_place, cell_words_from, cache_line, number_at, phase_of_word, task_span};
-ghost use Rattle.task_floor.specs.steps.inner.Reading.{held_in, joined_unless, row_in, rows_from};
+ghost use Rattle.task_floor.specs.steps.inner.Reading.{joined_unless, rows_from};
 
 use crate::floor::{CACHE_LINE, TASK_SPAN};
 use crate::unjoined::unjoined;
 use crate::words::value_of;
+use atomic_table::Closed;
 use floor_rule::TaskSlot;
 use floor_table::KeptSlot;
+use floor_table::nodes::TreeSlot;
 use seg_journal::{End, Entry};
 use std::alloc::Global;
 use twe_base::{Ints, List, Memory};
 use twe_machine::{FirstFault, TaskRow, TaskStatus};
 
-/// The values of this many cells.
-pub(crate) fn cells_of(alloc: Global, words: &[u64], count: usize) -> Result<Ints, Memory>
-    requires within { cache_line + cache_line * count ≤ length words.now }
-    requires small { (c : ℕ) → c < count → number_at (get_elem? words.now (cell_place c)) < 2 ^ 32 }
-    ensures { IfOk result (λ cells. cells ≡ cell_words_from words.now cache_line count) }
+/// The values of this many cells, whose words are in a closed table.
+pub(crate) fn cells_of(
+    alloc: Global,
+    table: &Closed<TreeSlot, Global>,
+    count: usize,
+) -> Result<Ints, Memory>
+    requires full { IsFull table.now.words }
+    requires within { cache_line + cache_line * count ≤ slots_len table.now.words }
+    requires small { (c : ℕ) → c < count → number_at (get_elem? (slots_items table.now.words) (cell_place c)) < 2 ^ 32 }
+    ensures { IfOk result (λ cells. cells ≡ cell_words_from (slots_items table.now.words) cache_line count) }
 {
-    let mut cells = Ints::new(alloc);
+    let mut cells = Ints::with_capacity(alloc, count)?;
     for c in 0..count {
-        cells.push(value_of(words[CACHE_LINE + CACHE_LINE * c]))?;
+        cells.push(value_of(table.word(CACHE_LINE + CACHE_LINE * c)))?;
     }
     Ok(cells)
 }
 
-/// The rows of the tasks whose slots these are. The words of task 0 lie from `first` on.
+/// The rows of these tasks, whose words are in a closed table. Those of task 0 lie from `first` on.
 pub(crate) fn rows_of(
     alloc: Global,
-    words: &[u64],
+    table: &Closed<TreeSlot, Global>,
     first: usize,
-    slots: List<Option<KeptSlot>>,
+    tasks: List<KeptSlot>,
 ) -> Result<List<TaskRow>, Memory>
-    requires { first + task_span * length slots ≤ length words.now }
-    ensures { IfOk result (λ rows. rows ≡ rows_from words.now first (held_in slots) 0 slots) }
+    requires full { IsFull table.now.words }
+    requires within { first + task_span * length tasks ≤ slots_len table.now.words }
+    ensures { IfOk result (λ rows. rows ≡ rows_from (slots_items table.now.words) first tasks 0 tasks) }
 {
-    let marks = unjoined(alloc, slots.as_slice())?;
-    let mut slots = slots;
-    let mut rows = Vec::with_capacity(alloc, count_held(slots.as_slice()))?;
-    for t in 0..slots.len() {
-        let slot = slots.item_mut(t).take();
-        let word = words[first + TASK_SPAN * t + 1];
-        add_row(alloc, &mut rows, slot, word, marks.as_slice()[t])?;
+    let marks = unjoined(alloc, tasks.as_slice())?;
+    let mut rows = Vec::with_capacity(alloc, tasks.len())?;
+    for task in tasks.into_vec() {
+        let t = rows.len();
+        let word = table.word(first + TASK_SPAN * t + 1);
+        let row = row_of(alloc, task.into_slot(), word, marks.as_slice()[t])?;
+        rows.reserve(1)?;
+        rows.push_reserved(row);
     }
     Ok(List::from(rows))
-}
-
-/// How many slots are not empty: so many rows there will be.
-fn count_held(slots: &[Option<KeptSlot>]) -> usize {
-    slots.iter().filter(|slot| slot.is_some()).count()
-}
-
-/// Adds the row of a task with this slot and this phase word, if the slot is not empty. Some task has it as an unjoined child,
-/// or none.
-fn add_row(
-    alloc: Global,
-    rows: &mut Vec<TaskRow>,
-    slot: Option<KeptSlot>,
-    word: u64,
-    unjoined: bool,
-) -> Result<(), Memory>
-    ensures { OnOk result (rows.new.items ≡ rows.old.items ++ row_in slot (phase_of_word word) unjoined) }
-{
-    match slot {
-        None => Ok(()),
-        Some(kept) => {
-            let slot = kept.into_slot();
-            let joined = is_joined(slot.parent, unjoined);
-            let row = row_of(alloc, slot, word, joined)?;
-            rows.reserve(1)?;
-            rows.push_reserved(row);
-            Ok(())
-        }
-    }
 }
 
 /// Whether a task with this parent was joined.
@@ -90,9 +69,9 @@ fn is_joined(parent: Option<u32>, unjoined: bool) -> bool
     }
 }
 
-/// The row of a task with this slot and this phase word, which was joined or not.
-fn row_of(alloc: Global, slot: TaskSlot, word: u64, joined: bool) -> Result<TaskRow, Memory>
-    ensures { IfOk result (λ row. row ≡ row_by slot (phase_of_word word) joined) }
+/// The row of a task with this slot and this phase word. Some task has it as an unjoined child, or none.
+fn row_of(alloc: Global, slot: TaskSlot, word: u64, unjoined: bool) -> Result<TaskRow, Memory>
+    ensures { IfOk result (λ row. row ≡ row_by slot (phase_of_word word) (joined_unless slot.parent unjoined)) }
 {
     let TaskSlot {
         frame,
@@ -109,7 +88,7 @@ fn row_of(alloc: Global, slot: TaskSlot, word: u64, joined: bool) -> Result<Task
         effects,
         frame,
         parent,
-        joined,
+        joined: is_joined(parent, unjoined),
         out,
         status: status_in(word),
         value,

@@ -1,13 +1,14 @@
 //! What is left of a floor at a quiet point.
-ghost use Rattle.std.specs.Prelude.{◌≡◌, ◌∷◌, [], length, IfOk};
+ghost use Rattle.std.specs.Prelude.{◌≡◌, IfOk};
+ghost use Rattle.core.specs.Mem.Slots.{IsFull, slots_items};
 ghost use Rattle.twe_base.specs.Limits.{IsWithin};
 ghost use Rattle.twe_program.specs.Program.{cell_count};
 ghost use Rattle.twe_program.specs.WellFormed.{IsWellFormed};
 ghost use Rattle.twe_machine.specs.Runs.{Legal, state_after};
 ghost use Rattle.seg_journal.specs.Merging.{all_of};
 ghost use Rattle.floor_table.specs.declared.view.SeatKind.TheVariants.{Main};
-ghost use Rattle.floor_table.specs.Holds.{HasGivenAll, ShowsEnd};
-ghost use Rattle.floor_table.specs.Shown.{ShowsRest};
+ghost use Rattle.floor_table.specs.Holds.{HasGivenAll};
+ghost use Rattle.task_floor.specs.inner.Emptying.{EndedAfter, ShowsState};
 ghost use Rattle.task_floor.specs.steps.Resting.{IsRestOf};
 
 use crate::clock::asked_of;
@@ -16,11 +17,12 @@ use crate::floor::{CACHE_LINE, Floor, Stand};
 use crate::linking::links_of;
 use crate::reading::{cells_of, first_fault_in, rows_of};
 use crate::steps::Rest;
-use floor_table::Named;
-use floor_table::nodes::Planted;
+use atomic_table::Closed;
+use floor_table::nodes::{Planted, TreeSlot};
+use floor_table::{KeptSlot, Named};
 use seg_journal::{Entry, JournalPart, merge};
 use std::alloc::Global;
-use twe_base::{Ints, Memory};
+use twe_base::{Ints, List, Memory};
 use twe_machine::State;
 
 impl<N: Named + Planted> Floor<N> {
@@ -36,33 +38,50 @@ impl<N: Named + Planted> Floor<N> {
         ensures { IfOk result (IsRestOf N.prog N.lim parts.now) }
     {
         let cells = self.cells;
-        let left = self.empty(alloc, stand)?;
+        let Emptied { table, tasks } = self.empty(alloc, stand)?;
+        let rest = Self::read_rest(alloc, &table, cells, tasks, parts);
+        table.free();
+        rest
+    }
+
+    /// The journal that these parts merge to, and the state that a closed table and the tasks from its slots show then.
+    fn read_rest(
+        alloc: Global,
+        table: &Closed<TreeSlot, Global>,
+        cells: usize,
+        tasks: List<KeptSlot>,
+        parts: &[JournalPart],
+    ) -> Result<Rest, Memory>
+        requires full { IsFull table.now.words }
+        requires cells { cells ≡ cell_count N.prog }
+        requires ended { EndedAfter N.prog N.lim parts.now (slots_items table.now.words) tasks }
+        ensures { IfOk result (IsRestOf N.prog N.lim parts.now) }
+    {
         let (journal, prints) = merge(alloc, parts)?;
-        let state = Self::read_state(alloc, cells, left, journal.as_slice(), prints)?;
+        let state = Self::read_state(alloc, table, cells, tasks, journal.as_slice(), prints)?;
         Ok(Rest { state, journal })
     }
 
-    /// The state that the words and slots of a floor show after this journal.
+    /// The state that a closed table and the tasks from its slots show after this journal.
     fn read_state(
         alloc: Global,
+        table: &Closed<TreeSlot, Global>,
         cells: usize,
-        left: Emptied,
+        tasks: List<KeptSlot>,
         journal: &[Entry],
         prints: Ints,
     ) -> Result<State, Memory>
+        requires full { IsFull table.now.words }
         requires accepted { IsWellFormed N.prog × IsWithin N.lim.fuel N.lim.tasks }
         requires cells { cells ≡ cell_count N.prog }
         requires legal { Legal N.prog N.lim journal.now }
-        requires shows { ShowsEnd N.prog (state_after N.prog N.lim journal.now) left.words left.slots }
-        requires rest { ShowsRest N.prog N.lim (state_after N.prog N.lim journal.now) left.words left.slots }
+        requires shows { ShowsState N.prog N.lim (state_after N.prog N.lim journal.now) (slots_items table.now.words) tasks }
         requires prints { prints ≡ (state_after N.prog N.lim journal.now).prints }
         ensures { IfOk result (λ state. state ≡ state_after N.prog N.lim journal.now) }
     {
-        let Emptied { words, slots } = left;
-        let words = words.as_slice();
-        let asked = asked_of(words[0]);
-        let values = cells_of(alloc, words, cells)?;
-        let tasks = rows_of(alloc, words, CACHE_LINE + CACHE_LINE * cells, slots)?;
+        let asked = asked_of(table.word(0));
+        let values = cells_of(alloc, table, cells)?;
+        let tasks = rows_of(alloc, table, CACHE_LINE + CACHE_LINE * cells, tasks)?;
         let links = links_of(alloc, tasks.as_slice())?;
         Ok(State {
             cells: values,

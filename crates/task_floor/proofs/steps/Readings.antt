@@ -1,6 +1,6 @@
--- What was read from the words and slots of a quiet floor is the state that they show.
-use Rattle.std.proofs.Common.{◌≡◌, ◌+◌, ◌*◌, ◌++◌, ◌||◌, ◌<◌, ◌≤◌, ℕ, zero, suc, ℤ, Bool, true, false, not, if◌then◌else◌, List, [], ◌∷◌, length, map, take, drop, get_or, Option, None, Some, refl, sym, ap, subst, ◌∙◌, append_assoc, arith}
-use Rattle.std.specs.Prelude.{slice_get, slice_set}
+-- What was read from the words and tasks of a quiet floor is the state that they show.
+use Rattle.std.proofs.Common.{◌≡◌, ◌+◌, ◌*◌, ◌++◌, ◌||◌, ◌<◌, ◌≤◌, ℕ, zero, suc, ℤ, Bool, true, false, not, if◌then◌else◌, List, [], ◌∷◌, length, map, take, get_or, Option, None, Some, refl, sym, ap, subst, ◌∙◌, append_assoc, arith}
+use Rattle.std.specs.Prelude.{◌^◌, slice_get, slice_set}
 use mathlib.Core.Option as core
 use mathlib.Core.Option.{some-injective, some-ne-none}
 use lib.ListN.{get_elem?}
@@ -25,11 +25,10 @@ use Rattle.floor_rule.specs.Rows.{slot_of}
 use Rattle.floor_rule.specs.Shown.{has_child, is_joined, is_unjoined, row_by}
 use Rattle.floor_rule.proofs.Puts.{none_some, some_one}
 use Rattle.floor_rule.proofs.ShownRows.{row_shown}
-use Rattle.floor_table.specs.Holds.{ShowsEnd}
-use Rattle.floor_table.specs.Layout.{cell_words_from, number_at, phase_word_at, value_of_word}
-use Rattle.floor_table.specs.Shown.{ShowsRest}
-use Rattle.task_floor.specs.steps.inner.Reading.{fresh_link, held_in, joined_unless, links_to, row_in, rows_from}
-use Rattle.task_floor.proofs.steps.Taken.{drop_one}
+use Rattle.floor_table.specs.Layout.{asked_of_clock, cell_place, cell_words_from, number_at, phase_word_at, value_of_word, word_count}
+use Rattle.floor_table.proofs.nodes.Elements.{take_there}
+use Rattle.task_floor.specs.inner.Emptying.{ShowsState}
+use Rattle.task_floor.specs.steps.inner.Reading.{fresh_link, held_in, joined_unless, links_to, rows_from}
 
 -- Cells.
 
@@ -57,12 +56,13 @@ or_assoc : (a b c : Bool) → (a || b) || c ≡ a || (b || c)
 or_assoc true b c = refl
 or_assoc false b c = refl
 
-pub unjoined_more : (c : ℕ) (slots : List (Option TaskSlot)) (slot : Option TaskSlot) → is_unjoined c (held_in (slots ++ slot ∷ [])) ≡ is_unjoined c (held_in slots) || is_unjoined c (held_in (slot ∷ []))
-unjoined_more c [] slot = refl
-unjoined_more c (None ∷ slots) slot = unjoined_more c slots slot
-unjoined_more c (Some s ∷ slots) slot =
-    ap (λ (b : Bool). has_child c s || b) (unjoined_more c slots slot)
-    ∙ sym (or_assoc (has_child c s) (is_unjoined c (held_in slots)) (is_unjoined c (held_in (slot ∷ []))))
+or_false : (b : Bool) → b || false ≡ b
+or_false true = refl
+or_false false = refl
+
+pub unjoined_more : (c : ℕ) (tasks : List TaskSlot) (x : TaskSlot) → is_unjoined c (tasks ++ x ∷ []) ≡ is_unjoined c tasks || has_child c x
+unjoined_more c [] x = or_false (has_child c x)
+unjoined_more c (task ∷ tasks) x = ap (λ (b : Bool). has_child c task || b) (unjoined_more c tasks x) ∙ sym (or_assoc (has_child c task) (is_unjoined c tasks) (has_child c x))
 
 -- Slots.
 
@@ -107,35 +107,33 @@ joined_same c (Some q) all = by (is_unjoined c all)
     by true = refl
     by false = refl
 
-pub rows_are : (words : List ℕ) (first : ℕ) (all : List TaskSlot) (k : ℕ) (rows : List TaskRow) (slots : List (Option TaskSlot)) → AreSlotsOf rows slots → SayRows words first all k rows
-    → rows_from words first all k slots ≡ rows
-rows_are words first all k [] [] are say = refl
-rows_are words first all k (row ∷ rows) [] are say = absurd (some-ne-none (Some (slot_of row)) (sym (are.made 0 row refl)))
-rows_are words first all k [] (None ∷ slots) are say =
-    rows_are words first all (k + 1) [] slots (empty_later None slots are) (record { are = λ t n r is there. absurd (none_some there) })
-rows_are words first all k [] (Some slot ∷ slots) are say = absurd (none_some (sym (some-injective (Some slot) None (are.unmade 0 (omega arith) (omega arith)))))
-rows_are words first all k (row ∷ rows) (None ∷ slots) are say = absurd (none_some (some-injective None (Some (slot_of row)) (are.made 0 row refl)))
-rows_are words first all k (row ∷ rows) (Some slot ∷ slots) are say =
-    let phase : Phase = phase_word_at (get_elem? words (first + 9 * k + 1)) in
-    let same : slot ≡ slot_of row = some_one (some-injective (Some slot) (Some (slot_of row)) (are.made 0 row refl)) in
-    let here : row_by slot phase (joined_unless slot.parent (is_unjoined k all)) ≡ row =
-    ap (row_by slot phase) (joined_same k slot.parent all) ∙ (ap (λ (s : TaskSlot). row_by s phase (is_joined k s.parent all)) same ∙ sym (say.are 0 k row (omega arith) refl)) in
-    let rest =
-    rows_are words first all (k + 1) rows slots (slots_later row rows (Some slot) slots are) (record { are = λ t n r is there. say.are (suc t) n r (omega (arith, is)) there }) in
+pub rows_are : (words : List ℕ) (first : ℕ) (all : List TaskSlot) (k : ℕ) (rows : List TaskRow) → SayRows words first all k rows → rows_from words first all k (map slot_of rows) ≡ rows
+rows_are words first all k [] say = refl
+rows_are words first all k (row ∷ rows) say =
+    let here = ap (row_by (slot_of row) (phase_word_at (get_elem? words (first + 9 * k + 1)))) (joined_same k row.parent all) ∙ sym (say.are 0 k row (omega arith) refl) in
+    let rest = rows_are words first all (k + 1) rows (record { are = λ t n r is there. say.are (suc t) n r (omega (arith, is)) there }) in
     λ i. here i ∷ rest i
 
 -- the row of one task more
-pub rows_step : (words : List ℕ) (first : ℕ) (all : List TaskSlot) (t : ℕ) (slots after : List (Option TaskSlot)) (slot : Option TaskSlot) (phase : Phase) (mark : Bool) (rows new target : List TaskRow)
-    → slice_get slots t ≡ Some slot → drop (t + 1) after ≡ drop (t + 1) slots → phase ≡ phase_word_at (get_elem? words (first + 9 * t + 1)) → mark ≡ is_unjoined t all
-    → new ≡ rows ++ row_in slot phase mark → rows ++ rows_from words first all t (drop t slots) ≡ target → new ++ rows_from words first all (t + 1) (drop (t + 1) after) ≡ target
-rows_step words first all t slots after slot phase mark rows new target at same phase_is mark_is is before =
-    let behind : List TaskRow = rows_from words first all (t + 1) (drop (t + 1) slots) in
-    ap (λ (l : List (Option TaskSlot)). new ++ rows_from words first all (t + 1) l) same
+pub rows_step : (words : List ℕ) (first : ℕ) (all : List TaskSlot) (t : ℕ) (task : TaskSlot) (tasks : List TaskSlot) (phase : Phase) (mark : Bool) (rows new target : List TaskRow) (row : TaskRow)
+    → t ≡ length rows → phase ≡ phase_word_at (get_elem? words (first + 9 * t + 1)) → mark ≡ is_unjoined t all → row ≡ row_by task phase (joined_unless task.parent mark) → new ≡ rows ++ row ∷ []
+    → rows ++ rows_from words first all (length rows) (task ∷ tasks) ≡ target → new ++ rows_from words first all (length new) tasks ≡ target
+rows_step words first all t task tasks phase mark rows new target row t_is phase_is mark_is row_is is before =
+    let more : length new ≡ t + 1 = ap length is ∙ (length_one rows row ∙ ap (λ (n : ℕ). n + 1) (sym t_is)) in
+    let behind : List TaskRow = rows_from words first all (t + 1) tasks in
+    let same : row ≡ row_by task (phase_word_at (get_elem? words (first + 9 * t + 1))) (joined_unless task.parent (is_unjoined t all)) =
+    row_is
+    ∙ (ap (λ (ph : Phase). row_by task ph (joined_unless task.parent mark)) phase_is
+    ∙ ap (λ (b : Bool). row_by task (phase_word_at (get_elem? words (first + 9 * t + 1))) (joined_unless task.parent b)) mark_is) in
+    ap (λ (n : ℕ). new ++ rows_from words first all n tasks) more
     ∙ (ap (λ (l : List TaskRow). l ++ behind) is
-    ∙ (append_assoc rows (row_in slot phase mark) behind
-    ∙ (ap (λ (ph : Phase). rows ++ (row_in slot ph mark ++ behind)) phase_is
-    ∙ (ap (λ (b : Bool). rows ++ (row_in slot (phase_word_at (get_elem? words (first + 9 * t + 1))) b ++ behind)) mark_is
-    ∙ (ap (λ (l : List (Option TaskSlot)). rows ++ rows_from words first all t l) (sym (drop_one slots t slot at)) ∙ before)))))
+    ∙ (append_assoc rows (row ∷ []) behind
+    ∙ (ap (λ (r : TaskRow). rows ++ r ∷ behind) same
+    ∙ (ap (λ (n : ℕ). rows ++ rows_from words first all n (task ∷ tasks)) t_is ∙ before))))
+  where
+    length_one : (l : List TaskRow) (x : TaskRow) → length (l ++ x ∷ []) ≡ length l + 1
+    length_one [] x = refl
+    length_one (y ∷ l) x = let more = length_one l x in omega (arith, more)
 
 -- Links.
 
@@ -210,36 +208,86 @@ module _ (links : List Link) (t : ℕ) (below : t < length links) (parent on : O
   all_set joined true after last is last_is = last_is ∙ (ap (λ (ls : List Link). with_done ls t) (joined_set joined after is) ∙ finished (link_with joined false))
   all_set joined false after last is last_is = last_is ∙ joined_set joined after is
 
+-- Words behind those of the floor say nothing of it.
+
+pub cells_within : (words : List ℕ) (n place count : ℕ) → place + 8 * count ≤ n → cell_words_from (take n words) place count ≡ cell_words_from words place count
+cells_within words n place zero within = refl
+cells_within words n place (suc count) within =
+    let here : value_of_word (number_at (get_elem? (take n words) place)) ≡ value_of_word (number_at (get_elem? words place)) =
+    ap (λ (o : core.Option ℕ). value_of_word (number_at o)) (take_there words n place (omega (arith, within))) in
+    let rest = cells_within words n (place + 8) count (omega (arith, within)) in
+    λ i. here i ∷ rest i
+
+pub rows_within : (words : List ℕ) (n first : ℕ) (all : List TaskSlot) (t : ℕ) (tasks : List TaskSlot) → first + 9 * (t + length tasks) ≤ n
+    → rows_from (take n words) first all t tasks ≡ rows_from words first all t tasks
+rows_within words n first all t [] within = refl
+rows_within words n first all t (task ∷ tasks) within =
+    let here =
+    ap (λ (o : core.Option ℕ). row_by task (phase_word_at o) (joined_unless task.parent (is_unjoined t all))) (take_there words n (first + 9 * t + 1) (omega (arith, within))) in
+    let rest = rows_within words n first all (t + 1) tasks (omega (arith, within)) in
+    λ i. here i ∷ rest i
+
+held_few : (slots : List (Option TaskSlot)) → length (held_in slots) ≤ length slots
+held_few [] = omega arith
+held_few (None ∷ slots) = let few = held_few slots in omega (arith, few)
+held_few (Some task ∷ slots) = let few = held_few slots in omega (arith, few)
+
+all_there : (l : List ℕ) (n : ℕ) → length (take n l) ≡ n → n ≤ length l
+all_there l zero is = omega arith
+all_there [] (suc n) is = absurd (omega (arith, is))
+all_there (x ∷ l) (suc n) is = let rest = all_there l n (omega (arith, is)) in omega (arith, rest)
+
 -- The state.
-module _ (p : Program) (lim : Bounds) (well : IsWellFormed p) (st : State) (reached : IsReached p lim st) (words : List ℕ) (slots : List (Option TaskSlot)) (shows : ShowsEnd p st words slots)
-    (rest : ShowsRest p lim st words slots) where
-  are_slots : AreSlotsOf st.tasks slots
+module _ (p : Program) (lim : Bounds) (well : IsWellFormed p) (st : State) (reached : IsReached p lim st) (all_words : List ℕ) (tasks : List TaskSlot) (shows : ShowsState p lim st all_words tasks) where
+  abbrev words : List ℕ
+  words = take (word_count p lim) all_words
+
+  pub within : word_count p lim ≤ length all_words
+  within = all_there all_words (word_count p lim) shows.rest.word_count
+
+  pub few : length tasks ≤ lim.tasks
+  few =
+      let least = held_few shows.slots in
+      let held = ap length shows.held in
+      let count = shows.rest.slot_count in
+      omega (arith, least, held, count)
+
+  pub cells_small : (c : ℕ) → c < cell_count p → number_at (get_elem? all_words (cell_place c)) < 2 ^ 32
+  cells_small c below =
+      let word = shows.end.cells c below in
+      subst (λ (o : core.Option ℕ). number_at o < 2 ^ 32) (sym (sym (take_there all_words (word_count p lim) (8 + 8 * c) (omega (arith, below))) ∙ word.there)) word.small
+
+  pub asked_read : asked_of_clock (number_at (get_elem? all_words 0)) ≡ st.asked
+  asked_read = ap (λ (o : core.Option ℕ). asked_of_clock (number_at o)) (sym (take_there all_words (word_count p lim) 0 (omega arith))) ∙ shows.rest.asked
+
+  pub cells_read : cell_words_from all_words 8 (cell_count p) ≡ st.cells
+  cells_read = sym (cells_within all_words (word_count p lim) 8 (cell_count p) (omega arith)) ∙ shows.rest.cells
+
+  are_slots : AreSlotsOf st.tasks shows.slots
   are_slots = record {
-    made = shows.slots_are;
-    unmade = λ t past below. let count = rest.slot_count in rest.unmade t past (omega (arith, count, below));
+    made = shows.end.slots_are;
+    unmade = λ t past below. let count = shows.rest.slot_count in shows.rest.unmade t past (omega (arith, count, below));
   }
 
-  pub held_all : held_in slots ≡ map slot_of st.tasks
-  held_all = held_is st.tasks slots are_slots
+  pub held_all : tasks ≡ map slot_of st.tasks
+  held_all = shows.held ∙ held_is st.tasks shows.slots are_slots
 
   say_rows : SayRows words (8 + 8 * cell_count p) (map slot_of st.tasks) 0 st.tasks
   say_rows = record {
     are = λ t n row is there.
         let here : IsRow st n row = subst (λ (k : ℕ). IsRow st k row) (omega (arith, is)) there in
         row_shown p lim well st reached n row here
-        ∙ ap (λ (phase : Phase). row_by (slot_of row) phase (is_joined n row.parent (map slot_of st.tasks))) (sym (rest.phases n row here));
+        ∙ ap (λ (phase : Phase). row_by (slot_of row) phase (is_joined n row.parent (map slot_of st.tasks))) (sym (shows.rest.phases n row here));
   }
 
-  pub tasks_read : rows_from words (8 + 8 * cell_count p) (held_in slots) 0 slots ≡ st.tasks
+  pub tasks_read : rows_from all_words (8 + 8 * cell_count p) tasks 0 tasks ≡ st.tasks
   tasks_read =
-      ap (λ (all : List TaskSlot). rows_from words (8 + 8 * cell_count p) all 0 slots) held_all
-      ∙ rows_are words (8 + 8 * cell_count p) (map slot_of st.tasks) 0 st.tasks slots are_slots say_rows
+      sym (rows_within all_words (word_count p lim) (8 + 8 * cell_count p) tasks 0 tasks (omega (arith, few)))
+      ∙ (ap (λ (all : List TaskSlot). rows_from words (8 + 8 * cell_count p) all 0 all) held_all
+      ∙ rows_are words (8 + 8 * cell_count p) (map slot_of st.tasks) 0 st.tasks say_rows)
 
-  pub tasks_are : (read : List ℕ) (first : ℕ) (tasks : List TaskRow) → read ≡ words → first ≡ 8 + 8 * cell_count p → tasks ≡ rows_from read first (held_in slots) 0 slots → tasks ≡ st.tasks
-  tasks_are read first tasks same first_is is =
-      is
-      ∙ (ap (λ (l : List ℕ). rows_from l first (held_in slots) 0 slots) same
-      ∙ (ap (λ (n : ℕ). rows_from words n (held_in slots) 0 slots) first_is ∙ tasks_read))
+  pub tasks_are : (first : ℕ) (rows : List TaskRow) → first ≡ 8 + 8 * cell_count p → rows ≡ rows_from all_words first tasks 0 tasks → rows ≡ st.tasks
+  tasks_are first rows first_is is = is ∙ (ap (λ (n : ℕ). rows_from all_words n tasks 0 tasks) first_is ∙ tasks_read)
 
   pub rows_ordered : IsWithin lim.fuel lim.tasks → (rows : List TaskRow) → rows ≡ st.tasks → IsOrdered (map link_of_row rows)
   rows_ordered within rows same =

@@ -1,10 +1,13 @@
-use Rattle.std.proofs.Common.{◌≡◌, ◌++◌, drop, length}
-use Rattle.task_floor.specs.steps.inner.Reading.{held_in, rows_from}
+use Rattle.std.proofs.Common.{◌≡◌, ◌+◌, ◌++◌, length}
+use Rattle.std.specs.Vec.Iter.{into_iter_items, into_iter_len}
+use Rattle.core.specs.Mem.Slots.{slots_items}
+use Rattle.task_floor.specs.steps.inner.Reading.{rows_from}
 use Rattle.task_floor.proofs.reading.rows_of.Given as goal
 
--- the slots that are left lead to the same rows
-abbrev pub invariant-loop-t : goal.invariant-loop-t
-invariant-loop-t l = record {
-  size : length l.slots ≡ length l.initial.slots;
-  rows : l.rows.items ++ rows_from l.words l.first (held_in l.initial.slots) l.t (drop l.t l.slots) ≡ rows_from l.words l.first (held_in l.initial.slots) 0 l.initial.slots;
+-- the tasks that are left lead to the same rows
+abbrev pub invariant-loop-task : goal.invariant-loop-task
+invariant-loop-task l = record {
+  rows : l.rows.items ++ rows_from (slots_items l.table.words) l.first l.fn.tasks (length l.rows.items) (into_iter_items l.task-iterator) ≡ rows_from (slots_items l.table.words) l.first l.fn.tasks 0 l.fn.tasks;
+  count : into_iter_len l.task-iterator ≡ length (into_iter_items l.task-iterator);
+  whole : length l.rows.items + length (into_iter_items l.task-iterator) ≡ length l.fn.tasks;
 }

@@ -1,11 +1,10 @@
--- The rows that words and slots show.
-use Rattle.std.specs.Prelude.{◌+◌, ◌*◌, ◌++◌, ℕ, zero, suc, Bool, false, not, List, [], ◌∷◌, Option, None, Some, map}
+-- The rows that words and tasks show.
+use Rattle.std.specs.Prelude.{◌+◌, ◌*◌, ℕ, zero, suc, Bool, false, not, List, [], ◌∷◌, Option, None, Some, map}
 use lib.ListN.{get_elem?}
 use Rattle.wait_graph.specs.declared.tasks.Link.{Link}
 use Rattle.wait_graph.specs.Link.{new_link}
 use Rattle.twe_machine.specs.declared.state.TaskRow.{TaskRow}
 use Rattle.twe_machine.specs.Rows.{link_of_row}
-use Rattle.floor_rule.specs.declared.view.Phase.{Phase}
 use Rattle.floor_rule.specs.declared.view.TaskSlot.{TaskSlot}
 use Rattle.floor_rule.specs.Shown.{is_unjoined, row_by}
 use Rattle.floor_table.specs.Layout.{phase_word_at, task_span}
@@ -21,18 +20,13 @@ abbrev pub joined_unless : Option ℕ → Bool → Bool
 joined_unless None unjoined = false
 joined_unless (Some parent) unjoined = not unjoined
 
--- the row of a task with this slot, if it is not empty
-abbrev pub row_in : Option TaskSlot → Phase → Bool → List TaskRow
-row_in None phase unjoined = []
-row_in (Some slot) phase unjoined = row_by slot phase (joined_unless slot.parent unjoined) ∷ []
-
--- The rows of the tasks with these slots, numbered from t on. The words of task 0 lie from the place `first` on, and `all` are
--- the slots of all tasks.
-abbrev pub rows_from : List ℕ → ℕ → List TaskSlot → ℕ → List (Option TaskSlot) → List TaskRow
+-- The rows of these tasks, which are numbered from t on. The words of task 0 lie from the place `first` on, and `all` are all
+-- tasks.
+abbrev pub rows_from : List ℕ → ℕ → List TaskSlot → ℕ → List TaskSlot → List TaskRow
 rows_from words first all t [] = []
 rows_from words first all t (slot ∷ slots) =
-    row_in slot (phase_word_at (get_elem? words (first + task_span * t + 1))) (is_unjoined t all)
-    ++ rows_from words first all (t + 1) slots
+    row_by slot (phase_word_at (get_elem? words (first + task_span * t + 1))) (joined_unless slot.parent (is_unjoined t all))
+    ∷ rows_from words first all (t + 1) slots
 
 -- the links of a task before its waits and marks are set
 abbrev pub fresh_link : TaskRow → Link

@@ -1,20 +1,19 @@
-use Rattle.std.proofs.Common.{◌++◌, ℕ, List, Option, map, take, ap, ◌∙◌}
+use Rattle.std.proofs.Common.{◌≡◌, ◌++◌, ℕ, List, map, take, ap, ◌∙◌}
 use Rattle.core.specs.Mem.Slots.{slots_items}
 use Rattle.floor_rule.specs.declared.view.TaskSlot.{TaskSlot}
 use Rattle.task_floor.specs.inner.Emptying.{task_in}
+use Rattle.task_floor.specs.steps.inner.Reading.{held_in}
 use Rattle.task_floor.proofs.Emptied.{emptied_shows}
 use Rattle.task_floor.proofs.floor.Floor.empty.Goals as goal
 
-pub returns : goal.returns
-returns g c =
-    let closed = c.close-closed.result in
-    let words = c.from.ensures
-    ∙ (c.copy_words.ensures
-    ∙ (ap (λ (l : List ℕ). l ++ take c.self.inside.words (slots_items c.close-closed.result.words)) c.in_ok-words.ensures.items
-    ∙ ap (λ (n : ℕ). take n (slots_items c.close-closed.result.words)) c.self.invariant.1)) in
-    let slots = c.from-2.ensures
+pub returns-clause-ended : goal.returns-clause-ended
+returns-clause-ended g c =
+    let closed = c.close-table.result in
+    let words : c.drop_nodes.new.closed.words ≡ closed.words = c.drop_nodes.ensures.words ∙ c.take_tasks.ensures.words in
+    let tasks : c.from.result ≡ held_in (map task_in (take g.N.Named.lim.tasks (slots_items closed.slots))) =
+    c.from.ensures
     ∙ (c.take_tasks.ensures.items
-    ∙ (ap (λ (l : List (Option TaskSlot)). l ++ map task_in (take c.self.inside.tasks (slots_items c.close-closed.result.slots))) c.in_ok-slots.ensures.items
-    ∙ ap (λ (n : ℕ). map task_in (take n (slots_items c.close-closed.result.slots))) c.self.invariant.2)) in
-    emptied_shows g.N.Planted.nodes g.N.Named.prog g.N.Named.lim c.args.stand.me.0 (slots_items closed.words) (slots_items closed.slots) c.close-closed.ensures.ended c.from.result c.from-2.result
-    words slots
+    ∙ (ap (λ (l : List TaskSlot). l ++ held_in (map task_in (take c.self.inside.tasks (slots_items closed.slots)))) c.in_ok-tasks.ensures.items
+    ∙ ap (λ (n : ℕ). held_in (map task_in (take n (slots_items closed.slots)))) c.self.invariant.2)) in
+    emptied_shows g.N.Planted.nodes g.N.Named.prog g.N.Named.lim c.args.stand.me.0 (slots_items closed.words) (slots_items closed.slots) c.close-table.ensures.ended _ c.from.result
+    (ap slots_items words) tasks
