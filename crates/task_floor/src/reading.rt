@@ -7,7 +7,7 @@ ghost use Rattle.floor_table.specs.Layout.{cell_place, cell_words_from, cache_li
 ghost use Rattle.task_floor.specs.steps.inner.Reading.{joined_unless, rows_from};
 
 use crate::floor::{CACHE_LINE, TASK_SPAN};
-use crate::unjoined::unjoined;
+use crate::unjoined::mark;
 use crate::words::value_of;
 use atomic_table::Closed;
 use floor_rule::TaskSlot;
@@ -36,7 +36,8 @@ pub(crate) fn cells_of(
     Ok(cells)
 }
 
-/// The rows of these tasks, whose words are in a closed table. Those of task 0 lie from `first` on.
+/// The rows of these tasks, whose words are in a closed table. Those of task 0 lie from `first` on. Whether a task is an unjoined
+/// child is told by the tasks before it, since its parent is one of these.
 pub(crate) fn rows_of(
     alloc: Global,
     table: &Closed<TreeSlot, Global>,
@@ -47,14 +48,16 @@ pub(crate) fn rows_of(
     requires within { first + task_span * length tasks ≤ slots_len table.now.words }
     ensures { IfOk result (λ rows. rows ≡ rows_from (slots_items table.now.words) first tasks 0 tasks) }
 {
-    let marks = unjoined(alloc, tasks.as_slice())?;
+    let mut marks = List::from(vec![in alloc; false; tasks.len()]?);
     let mut rows = Vec::with_capacity(alloc, tasks.len())?;
     for task in tasks.into_vec() {
         let t = rows.len();
         let word = table.word(first + TASK_SPAN * t + 1);
-        let row = row_of(alloc, task.into_slot(), word, marks.as_slice()[t])?;
+        let unjoined = marks.as_slice()[t];
+        mark(&mut marks, task.slot.frame.out.as_slice());
+        let out = List::from_slice(alloc, task.slot.frame.out.as_slice())?;
         rows.reserve(1)?;
-        rows.push_reserved(row);
+        rows.push_reserved(row_of(task.into_slot(), out, word, unjoined));
     }
     Ok(List::from(rows))
 }
@@ -69,9 +72,10 @@ fn is_joined(parent: Option<u32>, unjoined: bool) -> bool
     }
 }
 
-/// The row of a task with this slot and this phase word. Some task has it as an unjoined child, or none.
-fn row_of(alloc: Global, slot: TaskSlot, word: u64, unjoined: bool) -> Result<TaskRow, Memory>
-    ensures { IfOk result (λ row. row ≡ row_by slot (phase_of_word word) (joined_unless slot.parent unjoined)) }
+/// The row of a task with this slot, these unjoined children and this phase word. Some task has it as an unjoined child, or none.
+fn row_of(slot: TaskSlot, out: List<u32>, word: u64, unjoined: bool) -> TaskRow
+    requires { out ≡ slot.frame.out.items }
+    ensures { result ≡ row_by slot (phase_of_word word) (joined_unless slot.parent unjoined) }
 {
     let TaskSlot {
         frame,
@@ -80,9 +84,8 @@ fn row_of(alloc: Global, slot: TaskSlot, word: u64, unjoined: bool) -> Result<Ta
         effects,
         parent,
     } = slot;
-    let out = List::from_slice(alloc, frame.out.as_slice())?;
     let value = value_in(word, frame.value);
-    Ok(TaskRow {
+    TaskRow {
         decl,
         args,
         effects,
@@ -92,7 +95,7 @@ fn row_of(alloc: Global, slot: TaskSlot, word: u64, unjoined: bool) -> Result<Ta
         out,
         status: status_in(word),
         value,
-    })
+    }
 }
 
 /// The status of a task with this phase word.

@@ -1,5 +1,5 @@
 -- What was read from the words and tasks of a quiet floor is the state that they show.
-use Rattle.std.proofs.Common.{◌≡◌, ◌+◌, ◌*◌, ◌++◌, ◌||◌, ◌<◌, ◌≤◌, ℕ, zero, suc, ℤ, Bool, true, false, not, if◌then◌else◌, List, [], ◌∷◌, length, map, take, get_or, Option, None, Some, refl, sym, ap, subst, ◌∙◌, append_assoc, arith}
+use Rattle.std.proofs.Common.{◌≡◌, ◌+◌, ◌*◌, ◌++◌, ◌||◌, ◌<◌, ◌≤◌, ℕ, zero, suc, ℤ, Bool, true, false, not, if◌then◌else◌, List, [], ◌∷◌, length, map, take, drop, get_or, Option, None, Some, refl, sym, ap, subst, ◌∙◌, append_assoc, arith}
 use Rattle.std.specs.Prelude.{◌^◌, slice_get, slice_set}
 use mathlib.Core.Option as core
 use mathlib.Core.Option.{some-injective, some-ne-none}
@@ -7,8 +7,10 @@ use lib.ListN.{get_elem?}
 use Rattle.std.proofs.lemmas.List.{length-map}
 use Rattle.std.proofs.lemmas.Option.{slice_get-get_or}
 use Rattle.twe_machine.proofs.links.Ordered.{reached_ordered}
+use Rattle.twe_machine.proofs.lists.Members.{IsIn, any_in, in_contains}
 use Rattle.twe_machine.proofs.lists.Places.{map_index}
 use Rattle.twe_machine.proofs.standing.ReachedStands.{reached_stands}
+use Rattle.twe_machine.proofs.standing.Standing.{IsChild}
 use Rattle.wait_graph.specs.declared.tasks.Link.{Link}
 use Rattle.wait_graph.specs.Link.{IsOrdered, link_of, new_link, with_done, with_joined, with_wait}
 use Rattle.twe_base.specs.Limits.{Bounds, IsWithin}
@@ -64,6 +66,41 @@ pub unjoined_more : (c : ℕ) (tasks : List TaskSlot) (x : TaskSlot) → is_unjo
 unjoined_more c [] x = or_false (has_child c x)
 unjoined_more c (task ∷ tasks) x = ap (λ (b : Bool). has_child c task || b) (unjoined_more c tasks x) ∙ sym (or_assoc (has_child c task) (is_unjoined c tasks) (has_child c x))
 
+-- if none of the tasks from the n-th on has c as an unjoined child, those before tell whether one has
+early_tell : (c n : ℕ) (rows : List TaskRow) → ((k : ℕ) (row : TaskRow) → n ≤ k → slice_get rows k ≡ Some row → has_child c (slot_of row) ≡ false)
+    → is_unjoined c (take n (map slot_of rows)) ≡ is_unjoined c (map slot_of rows)
+early_tell c zero [] late = refl
+early_tell c (suc n) [] late = refl
+early_tell c zero (row ∷ rows) late =
+    early_tell c zero rows (λ k r past there. late (suc k) r (omega arith) there) ∙ ap (λ (b : Bool). b || is_unjoined c (map slot_of rows)) (sym (late 0 row (omega arith) refl))
+early_tell c (suc n) (row ∷ rows) late =
+    ap (λ (b : Bool). has_child c (slot_of row) || b) (early_tell c n rows (λ k r past there. late (suc k) r (omega (arith, past)) there))
+
+-- the tasks so far and those that are left, after one more
+pub drop_more : (l : List TaskSlot) (t : ℕ) (x : TaskSlot) (left : List TaskSlot) → drop t l ≡ x ∷ left → drop (t + 1) l ≡ left
+drop_more l t x left is = ap (λ (n : ℕ). drop n l) next ∙ by l t is
+  where
+    next : t + 1 ≡ suc t
+    next = omega arith
+
+    by : (xs : List TaskSlot) (n : ℕ) → drop n xs ≡ x ∷ left → drop (suc n) xs ≡ left
+    by [] zero here = absurd (cc (here))
+    by [] (suc n) here = absurd (cc (here))
+    by (y ∷ xs) zero here = cc
+    by (y ∷ xs) (suc n) here = by xs n here
+
+pub take_more : (l : List TaskSlot) (t : ℕ) (x : TaskSlot) (left : List TaskSlot) → drop t l ≡ x ∷ left → take (t + 1) l ≡ take t l ++ x ∷ []
+take_more l t x left is = ap (λ (n : ℕ). take n l) next ∙ by l t is
+  where
+    next : t + 1 ≡ suc t
+    next = omega arith
+
+    by : (xs : List TaskSlot) (n : ℕ) → drop n xs ≡ x ∷ left → take (suc n) xs ≡ take n xs ++ x ∷ []
+    by [] zero here = absurd (cc (here))
+    by [] (suc n) here = absurd (cc (here))
+    by (y ∷ xs) zero here = let same : y ≡ x = cc in ap (λ (z : TaskSlot). z ∷ []) same
+    by (y ∷ xs) (suc n) here = ap (λ (zs : List TaskSlot). y ∷ zs) (by xs n here)
+
 -- Slots.
 
 -- the slots are those of these tasks, and then empty
@@ -97,6 +134,7 @@ held_is (row ∷ rows) (Some slot ∷ slots) are =
 -- the words and `all` say the rows of these tasks, which are numbered from k on
 pub record SayRows (words : List ℕ) (first : ℕ) (all : List TaskSlot) (k : ℕ) (rows : List TaskRow) : Type 0 where
   pub are : (t n : ℕ) (row : TaskRow) → n ≡ k + t → slice_get rows t ≡ Some row → row ≡ row_by (slot_of row) (phase_word_at (get_elem? words (first + 9 * n + 1))) (is_joined n row.parent all)
+  pub early : (n : ℕ) → is_unjoined n (take n all) ≡ is_unjoined n all
 
 -- who is joined, in two forms
 joined_same : (c : ℕ) (parent : Option ℕ) (all : List TaskSlot) → joined_unless parent (is_unjoined c all) ≡ is_joined c parent all
@@ -110,18 +148,20 @@ joined_same c (Some q) all = by (is_unjoined c all)
 pub rows_are : (words : List ℕ) (first : ℕ) (all : List TaskSlot) (k : ℕ) (rows : List TaskRow) → SayRows words first all k rows → rows_from words first all k (map slot_of rows) ≡ rows
 rows_are words first all k [] say = refl
 rows_are words first all k (row ∷ rows) say =
-    let here = ap (row_by (slot_of row) (phase_word_at (get_elem? words (first + 9 * k + 1)))) (joined_same k row.parent all) ∙ sym (say.are 0 k row (omega arith) refl) in
-    let rest = rows_are words first all (k + 1) rows (record { are = λ t n r is there. say.are (suc t) n r (omega (arith, is)) there }) in
+    let here =
+    ap (row_by (slot_of row) (phase_word_at (get_elem? words (first + 9 * k + 1)))) (ap (joined_unless row.parent) (say.early k) ∙ joined_same k row.parent all)
+    ∙ sym (say.are 0 k row (omega arith) refl) in
+    let rest = rows_are words first all (k + 1) rows (record { are = λ t n r is there. say.are (suc t) n r (omega (arith, is)) there; early = say.early }) in
     λ i. here i ∷ rest i
 
 -- the row of one task more
 pub rows_step : (words : List ℕ) (first : ℕ) (all : List TaskSlot) (t : ℕ) (task : TaskSlot) (tasks : List TaskSlot) (phase : Phase) (mark : Bool) (rows new target : List TaskRow) (row : TaskRow)
-    → t ≡ length rows → phase ≡ phase_word_at (get_elem? words (first + 9 * t + 1)) → mark ≡ is_unjoined t all → row ≡ row_by task phase (joined_unless task.parent mark) → new ≡ rows ++ row ∷ []
+    → t ≡ length rows → phase ≡ phase_word_at (get_elem? words (first + 9 * t + 1)) → mark ≡ is_unjoined t (take t all) → row ≡ row_by task phase (joined_unless task.parent mark) → new ≡ rows ++ row ∷ []
     → rows ++ rows_from words first all (length rows) (task ∷ tasks) ≡ target → new ++ rows_from words first all (length new) tasks ≡ target
 rows_step words first all t task tasks phase mark rows new target row t_is phase_is mark_is row_is is before =
     let more : length new ≡ t + 1 = ap length is ∙ (length_one rows row ∙ ap (λ (n : ℕ). n + 1) (sym t_is)) in
     let behind : List TaskRow = rows_from words first all (t + 1) tasks in
-    let same : row ≡ row_by task (phase_word_at (get_elem? words (first + 9 * t + 1))) (joined_unless task.parent (is_unjoined t all)) =
+    let same : row ≡ row_by task (phase_word_at (get_elem? words (first + 9 * t + 1))) (joined_unless task.parent (is_unjoined t (take t all))) =
     row_is
     ∙ (ap (λ (ph : Phase). row_by task ph (joined_unless task.parent mark)) phase_is
     ∙ ap (λ (b : Bool). row_by task (phase_word_at (get_elem? words (first + 9 * t + 1))) (joined_unless task.parent b)) mark_is) in
@@ -223,7 +263,7 @@ pub rows_within : (words : List ℕ) (n first : ℕ) (all : List TaskSlot) (t : 
 rows_within words n first all t [] within = refl
 rows_within words n first all t (task ∷ tasks) within =
     let here =
-    ap (λ (o : core.Option ℕ). row_by task (phase_word_at o) (joined_unless task.parent (is_unjoined t all))) (take_there words n (first + 9 * t + 1) (omega (arith, within))) in
+    ap (λ (o : core.Option ℕ). row_by task (phase_word_at o) (joined_unless task.parent (is_unjoined t (take t all)))) (take_there words n (first + 9 * t + 1) (omega (arith, within))) in
     let rest = rows_within words n first all (t + 1) tasks (omega (arith, within)) in
     λ i. here i ∷ rest i
 
@@ -272,12 +312,26 @@ module _ (p : Program) (lim : Bounds) (well : IsWellFormed p) (st : State) (reac
   pub held_all : tasks ≡ map slot_of st.tasks
   held_all = shows.held ∙ held_is st.tasks shows.slots are_slots
 
+  -- the children of a task were made after it
+  late : (c k : ℕ) (row : TaskRow) → IsRow st k row → c ≤ k → has_child c (slot_of row) ≡ false
+  late c k row there past = by (has_child c (slot_of row)) refl
+    where
+      by : (b : Bool) → has_child c (slot_of row) ≡ b → has_child c (slot_of row) ≡ false
+      by false is = is
+      by true is =
+          let stands = reached_stands p lim st well reached in
+          let listed : IsIn c row.out = subst (IsIn c) (sym (stands.rows k row there).out) (any_in row.frame.out.items c is) in
+          let child : IsChild st.tasks k c = (stands.children k row there c).0 (in_contains row.out c listed) in
+          let below = (stands.rows c child.row child.there).parent k child.parent in
+          absurd (omega (arith, below, past))
+
   say_rows : SayRows words (8 + 8 * cell_count p) (map slot_of st.tasks) 0 st.tasks
   say_rows = record {
     are = λ t n row is there.
         let here : IsRow st n row = subst (λ (k : ℕ). IsRow st k row) (omega (arith, is)) there in
         row_shown p lim well st reached n row here
         ∙ ap (λ (phase : Phase). row_by (slot_of row) phase (is_joined n row.parent (map slot_of st.tasks))) (sym (shows.rest.phases n row here));
+    early = λ n. early_tell n n st.tasks (λ k row past there. late n k row there past);
   }
 
   pub tasks_read : rows_from all_words (8 + 8 * cell_count p) tasks 0 tasks ≡ st.tasks

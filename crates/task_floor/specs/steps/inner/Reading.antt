@@ -1,5 +1,5 @@
 -- The rows that words and tasks show.
-use Rattle.std.specs.Prelude.{◌+◌, ◌*◌, ℕ, zero, suc, Bool, false, not, List, [], ◌∷◌, Option, None, Some, map}
+use Rattle.std.specs.Prelude.{◌+◌, ◌*◌, ℕ, zero, suc, Bool, false, not, List, [], ◌∷◌, Option, None, Some, map, take}
 use lib.ListN.{get_elem?}
 use Rattle.wait_graph.specs.declared.tasks.Link.{Link}
 use Rattle.wait_graph.specs.Link.{new_link}
@@ -21,11 +21,12 @@ joined_unless None unjoined = false
 joined_unless (Some parent) unjoined = not unjoined
 
 -- The rows of these tasks, which are numbered from t on. The words of task 0 lie from the place `first` on, and `all` are all
--- tasks.
+-- tasks. Whether a task is an unjoined child is told by the tasks before it.
 abbrev pub rows_from : List ℕ → ℕ → List TaskSlot → ℕ → List TaskSlot → List TaskRow
 rows_from words first all t [] = []
 rows_from words first all t (slot ∷ slots) =
-    row_by slot (phase_word_at (get_elem? words (first + task_span * t + 1))) (joined_unless slot.parent (is_unjoined t all))
+    row_by slot (phase_word_at (get_elem? words (first + task_span * t + 1)))
+    (joined_unless slot.parent (is_unjoined t (take t all)))
     ∷ rows_from words first all (t + 1) slots
 
 -- the links of a task before its waits and marks are set
