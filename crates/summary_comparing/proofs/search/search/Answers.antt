@@ -1,5 +1,6 @@
 use Rattle.std.proofs.Common.{◌≡◌, ◌<◌, ◌≤◌, ◌+◌, ℕ, List, Option, None, Some, length, sym, subst, arith}
 use Rattle.std.specs.Prelude.{IfNone, slice_get}
+use Rattle.std.proofs.lemmas.Option.{slice_get_within}
 use Rattle.summary_comparing.specs.declared.states.State.{State}
 use Rattle.summary_comparing.specs.inner.Search.{IsDoneWith}
 use Rattle.summary_comparing.proofs.Linked.{done-more, grow-further, grow-length}
@@ -32,3 +33,12 @@ of_uncountable-requires c =
     let inside = c.loop-at.invariant.inside in
     let end = c.loop-at-test.false in
     subst (λ (ss : List State). 4294967295 ≤ length ss) (sym long) (omega (arith, inside, end))
+
+-- no state is left
+pub returns-then-at-len-clause-ends : goal.returns-then-at-len-clause-ends
+returns-then-at-len-clause-ends c = λ at state there. c.loop-at.invariant.done at state (omega (arith, c.if-at-len.true, c.len.ensures, slice_get_within c.loop-at.states at state there)) there
+
+-- an access was found, and states were added before
+pub returns-in-Some-clause-grows : goal.returns-in-Some-clause-grows
+returns-in-Some-clause-grows c =
+    grow-further c.args.bodies.now c.args.target.now c.args.states.now c.loop-at.states c.look_at.new.states c.loop-at.invariant.grows c.in_ok-found.ensures.grows
