@@ -3,7 +3,10 @@ use denote.Param.{param}
 use denote.Param.Send.{arg_sync, param_sync, recorded_sync, shr_sync, struct_sync}
 use denote.Struct.Declared.{shape}
 use mir.Syntax.{named}
+use Rattle.std.proofs.Common.{Option, None, Some, IfSome, IfOk, sym, subst}
+use Rattle.std.specs.Prelude.{ok_or}
 use Rattle.std.proofs.sync.Mutex.TheSendSync as mutex
+use Rattle.opt_crew.specs.Keeping.{Keeps}
 use Rattle.opt_crew.specs.contracts.sharing.Shared as Shared
 use Rattle.opt_crew.proofs.round_core.RoundCore.TheSendSync as core
 use Rattle.opt_engine.proofs.hints.Hints.TheSendSync as hints
@@ -30,3 +33,14 @@ for_each_mut-requires-sync-F g c κs within =
         ),
       ),
     ))))))
+
+-- what is so of a value that is there is so of it in a result
+in_result : {A E : Type 0} (P : A → Type 0) (o : Option A) (e : E) → IfSome o P → IfOk (ok_or o e) P
+in_result P None e so = tt
+in_result P (Some x) e so = so
+
+-- the run after the round, unless it is lost
+pub returns : goal.returns
+returns g c =
+    subst (λ r. IfOk r (Keeps g.N.RoundName.prog g.N.RoundName.lim g.N.RoundName.earlier)) (sym c.ok_or.ensures.value)
+    (in_result (Keeps g.N.RoundName.prog g.N.RoundName.lim g.N.RoundName.earlier) c.into_run.result c.lost.result c.into_run.ensures)
