@@ -301,3 +301,23 @@ pub(crate) fn call<'a, C: Cells>(
         }
     }
 }
+
+/// Evaluates the arguments of a task that is made, as far as they call no method; if all have values, stops at the making.
+pub(crate) fn make<'a, C: Cells>(
+    alloc: Global,
+    p: &'a Prog,
+    machine: &mut Machine<'a>,
+    cells: &mut C,
+    prints: &mut Ints,
+    args: &'a Args,
+    goal: Goal,
+) -> Result<Onward, Memory>
+    requires { MayStride p.now C.known C.may_read C.may_write C.rule (Gather [] args.now goal)
+        machine.old cells.old prints.old }
+    ensures { IfOk result (MovesOn p.now C.known C.may_read C.may_write C.rule (Gather [] args.now goal)
+        machine.old cells.old prints.old machine.new cells.new prints.new) }
+{
+    let count = machine.vars.len();
+    let args = args.items.as_slice();
+    gather(alloc, p, machine, cells, prints, count, args, goal)
+}

@@ -8,13 +8,13 @@ ghost use Rattle.seg_exec.specs.inner.steps.Reached.{standing, standing_with};
 ghost use Rattle.seg_exec.specs.Access.{ways_of};
 
 use crate::cells::Cells;
-use crate::steps::continuation::{Continuation, Gathering, ValueUse};
+use crate::steps::continuation::{Continuation, Gathering, Goal, ValueUse};
 use crate::steps::machine::Machine;
 use crate::strides::branch::branch;
 use crate::strides::carry::{CarriedOut, carry_out};
 use crate::strides::choose::{choose, choose_first};
 use crate::strides::evaluate::{evaluate, evaluate_then, right_of};
-use crate::strides::gather::{gather_more, take};
+use crate::strides::gather::{gather_more, make, take};
 use crate::strides::onward::Onward;
 use crate::strides::return_value::{apply_then_return, return_value, right_then_return};
 use crate::strides::serve::{serve, use_value};
@@ -67,6 +67,22 @@ fn execute<'a, C: Cells>(
         StmtKind::Print { value, place } => {
             let then = ValueUse::PrintValue(*place);
             evaluate_then(alloc, p, machine, cells, prints, value, &then)
+        }
+        StmtKind::Make {
+            future,
+            task,
+            args,
+            spawned,
+            place,
+            ..
+        } => {
+            let goal = Goal::Make {
+                future: *future,
+                task: *task,
+                spawned: *spawned,
+                place: *place,
+            };
+            make(alloc, p, machine, cells, prints, args, goal)
         }
         _ => {
             let request = machine.execute(alloc, stmt)?;

@@ -1,8 +1,9 @@
-use Rattle.std.proofs.Common.{◌≡◌, Some, ap, rules, sym, ◌∙◌}
+use Rattle.std.proofs.Common.{◌≡◌, Some, [], ap, rules, sym, ◌∙◌}
 use Rattle.twe_program.specs.Statement.{Return, Statement}
 use Rattle.twe_program.specs.inner.StatementView.{statement_of}
+use Rattle.seg_exec.specs.declared.steps.continuation.Goal.TheVariants.{Make}
 use Rattle.seg_exec.specs.Access.{ways_of}
-use Rattle.seg_exec.specs.inner.steps.Continuations.{Choose, Evaluate, Execute, GiveCell, GiveVar, PrintValue, Turn, Unwind, to_do}
+use Rattle.seg_exec.specs.inner.steps.Continuations.{Choose, Evaluate, Execute, Gather, GiveCell, GiveVar, PrintValue, Turn, Unwind, to_do}
 use Rattle.seg_exec.specs.inner.steps.Reached.{standing}
 use Rattle.seg_exec.specs.inner.steps.Steps.{executed, on}
 use Rattle.seg_exec.specs.inner.steps.Views.{config_of}
@@ -74,6 +75,19 @@ returns-in-Return-Some g c =
     if_ok_map c.return_value.result (λ onward rest. moves_silent c.args.p.now (ways_of g.C.Cells.known g.C.Cells.may_read g.C.Cells.may_write g.C.Cells.rule) (Execute c.args.stmt.now) (config_of c.args.machine.now) (to_do (Evaluate c.in-Return-Some.value) (to_do Unwind (config_of c.args.machine.now))) c.args.cells.now c.args.prints.now (course onward c.return_value.new.machine)
     (standing c.return_value.new.machine c.return_value.new.cells c.return_value.new.prints)
     (ap (λ (s : Statement). executed s (config_of c.args.machine.now)) (let shape : c.args.stmt.now ≡ Return c.stmt.inside.point (Some c.in-Return-Some.value) = search rules in shape)) rest) c.return_value.ensures
+
+pub make-requires : goal.make-requires
+make-requires g c =
+    may_silent c.args.p.now (ways_of g.C.Cells.known g.C.Cells.may_read g.C.Cells.may_write g.C.Cells.rule) (Execute c.args.stmt.now) (config_of c.args.machine.now)
+    (to_do (Gather [] c.in-Make.args (Make c.in-Make.future c.in-Make.task c.in-Make.spawned c.in-Make.place)) (config_of c.args.machine.now)) c.args.cells.now c.args.prints.now
+    (ap (λ (s : Statement). executed s (config_of c.args.machine.now)) (sym c.stmt.view_is ∙ ap (λ kind. statement_of c.stmt.inside.point kind) c.in-Make.is)) c.requires
+
+pub returns-in-Make : goal.returns-in-Make
+returns-in-Make g c =
+    if_ok_map c.make.result (λ onward rest. moves_silent c.args.p.now (ways_of g.C.Cells.known g.C.Cells.may_read g.C.Cells.may_write g.C.Cells.rule) (Execute c.args.stmt.now) (config_of c.args.machine.now)
+    (to_do (Gather [] c.in-Make.args (Make c.in-Make.future c.in-Make.task c.in-Make.spawned c.in-Make.place)) (config_of c.args.machine.now)) c.args.cells.now c.args.prints.now (course onward c.make.new.machine)
+    (standing c.make.new.machine c.make.new.cells c.make.new.prints)
+    (ap (λ (s : Statement). executed s (config_of c.args.machine.now)) (sym c.stmt.view_is ∙ ap (λ kind. statement_of c.stmt.inside.point kind) c.in-Make.is)) rest) c.make.ensures
 
 pub returns-in_ok-request-in_default : goal.returns-in_ok-request-in_default
 returns-in_ok-request-in_default g c =
