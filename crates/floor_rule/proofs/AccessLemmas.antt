@@ -5,7 +5,7 @@ use Rattle.std.proofs.lemmas.Bool.{cases_eq}
 use Rattle.seg_exec.specs.Access.{Access, Reads, Writes, Prints, Agrees, after, value_in}
 use Rattle.isolation_laws.proofs.rows.ListElements.{get_set_other, length_set}
 use Rattle.admission_laws.specs.admission_core.States.{IsAmong}
-use Rattle.floor_rule.specs.Touches.{cell_accesses, cell_at, is_written}
+use Rattle.floor_rule.specs.Touches.{cell_at, is_written}
 
 -- a cell that is set has the same value in each two lists of one length
 pub set_at : (a b : List ℤ) (c : ℕ) (value : ℤ) → length a ≡ length b → cell_at (slice_set a c value) c ≡ cell_at (slice_set b c value) c
@@ -94,17 +94,3 @@ agrees_over a b (Reads c value ∷ earlier) same values agrees =
     (agrees_over a b earlier same (λ k v among. values k v (inr among)) agrees.0, value_over a b earlier c value (is_written c earlier) refl same (values c value (inl refl)) agrees.1)
 agrees_over a b (Writes c value ∷ earlier) same values agrees = agrees_over a b earlier same (λ k v among. values k v (inr among)) agrees
 agrees_over a b (Prints value ∷ earlier) same values agrees = agrees_over a b earlier same (λ k v among. values k v (inr among)) agrees
-
--- prints play no part for cells
-pub after_cells : (cells : List ℤ) (accesses : List Access) → after cells (cell_accesses accesses) ≡ after cells accesses
-after_cells cells [] = refl
-after_cells cells (Reads c value ∷ earlier) = after_cells cells earlier
-after_cells cells (Writes c value ∷ earlier) = ap (λ (l : List ℤ). slice_set l c value) (after_cells cells earlier)
-after_cells cells (Prints value ∷ earlier) = after_cells cells earlier
-
-pub agrees_cells : (cells : List ℤ) (accesses : List Access) → Agrees cells (cell_accesses accesses) → Agrees cells accesses
-agrees_cells cells [] agrees = tt
-agrees_cells cells (Reads c value ∷ earlier) agrees =
-    (agrees_cells cells earlier agrees.0, ap (λ (l : List ℤ). cell_at l c) (sym (after_cells cells earlier)) ∙ agrees.1)
-agrees_cells cells (Writes c value ∷ earlier) agrees = agrees_cells cells earlier agrees
-agrees_cells cells (Prints value ∷ earlier) agrees = agrees_cells cells earlier agrees

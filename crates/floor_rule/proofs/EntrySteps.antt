@@ -45,7 +45,7 @@ use Rattle.floor_rule.specs.Touches.{accesses_of}
 use Rattle.floor_rule.proofs.Puts.{none_some, put_all, put_was, some_one}
 use Rattle.floor_rule.proofs.RunLemmas.{Runs, open_still}
 use Rattle.floor_rule.proofs.TurnLemmas.{one_holder_put, phases_put, rows_put, turn_fits_else, turn_fits_replaced, turn_here, turn_was, turns_elsewhere}
-use Rattle.floor_rule.proofs.AccessLemmas.{after_cells, after_length, agrees_cells}
+use Rattle.floor_rule.proofs.AccessLemmas.{after_length}
 use Rattle.floor_rule.proofs.SegmentLemmas.{hand_reads, open_accesses, others_left, reads_left, runs_of, written_left}
 use Rattle.floor_rule.proofs.TurnSteps.{alone, held_not_free, home_else, homes_replaced}
 use Rattle.floor_rule.proofs.EntryLemmas.{Stays, child_next, end_next, row_next, stays}
@@ -145,7 +145,7 @@ module _ (p : Program) (well : IsWellFormed p) (lim : Bounds) (st : State) (reac
   left = record { frame = frame; cells = after st.cells may.accesses; accesses = may.accesses; stop = stop }
 
   agrees : Agrees st.cells may.accesses
-  agrees = agrees_cells st.cells may.accesses (subst (Agrees st.cells) (sym may.exactly) (hand_reads p st f fits agree apart i t turn may.ready may.has may.may may.own))
+  agrees = may.touches.agree st.cells stands.cells (hand_reads p st f fits agree apart i t turn may.ready may.has may.may may.own)
 
   pub segment_is : segment p (ready_frame st.tasks running.row.frame) st.cells ≡ left
   segment_is = ap (λ (fr : Frame). segment p fr st.cells) (sym running.frame) ∙ may.means st.cells agrees
@@ -163,7 +163,7 @@ module _ (p : Program) (well : IsWellFormed p) (lim : Bounds) (st : State) (reac
   changes = alone_law.results running.row running.there
 
   cells_are : next.cells ≡ cells_left
-  cells_are = changes.cells ∙ (ap (λ (s : Stopped). s.cells) segment_is ∙ (sym (after_cells st.cells may.accesses) ∙ ap (after st.cells) may.exactly))
+  cells_are = changes.cells ∙ (ap (λ (s : Stopped). s.cells) segment_is ∙ may.touches.same st.cells stands.cells (hand_reads p st f fits agree apart i t turn may.ready may.has may.may may.own))
 
   pub prints_are : (result_by_kind p lim st Run t).0.prints ≡ st.prints ++ frame.prints
   prints_are = changes.prints ∙ ap (λ (s : Stopped). st.prints ++ s.frame.prints) segment_is

@@ -30,7 +30,7 @@ use Rattle.floor_rule.specs.Floors.{Floor, Home, Away, Empty, Holds, TurnWord, F
 use Rattle.floor_rule.specs.Fitting.{MayRunFrom}
 use Rattle.floor_rule.specs.Rows.{phase_of, slot_of}
 use Rattle.admission_laws.specs.admission_core.States.{IsAmong}
-use Rattle.floor_rule.specs.Touches.{IsAccessFrom, accesses_of, cell_accesses, touches_of}
+use Rattle.floor_rule.specs.Touches.{IsAccessFrom, StandFor, touches_of}
 
 -- Turns.
 
@@ -121,8 +121,8 @@ after_store f i t cell value = record f { cells = slice_set f.cells cell value; 
 -- Entries.
 
 -- Seat i may draw an entry of task t whose segment left this frame and this stop. It may run that segment, the phase word
--- says `Running`, and the segment has made exactly the accesses that are open: over any cells that agree with them it
--- leaves this frame and this stop.
+-- says `Running`, and the touches that are open stand for its accesses: over any cells that agree with these it leaves this
+-- frame and this stop.
 pub record MayCommit (p : Program) (f : Floor) (i t : ℕ) (turn : HeldTurn) (frame : Frame) (stop : Stop) : Type 0 where
   pub has : f.held i t ≡ Some turn
   pub ready : Frame
@@ -130,7 +130,7 @@ pub record MayCommit (p : Program) (f : Floor) (i t : ℕ) (turn : HeldTurn) (fr
   pub running : turn.phase ≡ Running
   pub own : IsOwn f i t
   pub accesses : List Access
-  pub exactly : cell_accesses accesses ≡ accesses_of (touches_of (f.segments i))
+  pub touches : StandFor p (touches_of (f.segments i)) accesses
   pub means : (cells : List ℤ) → Agrees cells accesses
       → segment p ready cells ≡ record { frame = frame; cells = after cells accesses; accesses = accesses; stop = stop }
 

@@ -1,8 +1,8 @@
 -- What an open segment has done to the cells so far.
-use Rattle.std.specs.Prelude.{◌≡◌, ◌⊎◌, ◌==◌, ℕ, ℤ, Bool, true, false, List, [], ◌∷◌, Contains, Option, Some, None, if◌then◌else◌, slice_get}
-use Rattle.twe_program.specs.Program.{Program}
+use Rattle.std.specs.Prelude.{◌≡◌, ◌⊎◌, ◌==◌, ℕ, ℤ, Bool, true, false, List, [], ◌∷◌, length, Contains, Option, Some, None, if◌then◌else◌, slice_get}
+use Rattle.twe_program.specs.Program.{Program, cell_count}
 use Rattle.seg_exec.specs.declared.frame.Frame.{Frame}
-use Rattle.seg_exec.specs.Access.{Access, Reads, Writes, Prints, value_in}
+use Rattle.seg_exec.specs.Access.{Access, Agrees, Reads, Writes, Prints, after, value_in}
 use Rattle.seg_exec.specs.Segment.{segment}
 use Rattle.isolation_laws.specs.soundness.DeclaredNow.{access_of}
 use Rattle.floor_rule.specs.declared.view.OpenSegment.{OpenSegment}
@@ -19,12 +19,13 @@ abbrev pub accesses_of : List Touch → List Access
 accesses_of [] = []
 accesses_of (touch ∷ touches) = access_by touch ∷ accesses_of touches
 
--- the accesses of a segment to cells: all but what it prints
-abbrev pub cell_accesses : List Access → List Access
-cell_accesses [] = []
-cell_accesses (Reads cell value ∷ earlier) = Reads cell value ∷ cell_accesses earlier
-cell_accesses (Writes cell value ∷ earlier) = Writes cell value ∷ cell_accesses earlier
-cell_accesses (Prints value ∷ earlier) = cell_accesses earlier
+-- Touches stand for the accesses of a segment: the accesses agree with all cells of the program with which the touches agree,
+-- and leave the cells that the touches leave. So a cell whose value is known needn't be read again, and of two writes of a cell
+-- between which no other cell is touched the later one is enough.
+pub record StandFor (p : Program) (touches : List Touch) (accesses : List Access) : Type 0 where
+  pub agree : (cells : List ℤ) → length cells ≡ cell_count p → Agrees cells (accesses_of touches) → Agrees cells accesses
+  pub same : (cells : List ℤ) → length cells ≡ cell_count p → Agrees cells (accesses_of touches)
+      → after cells accesses ≡ after cells (accesses_of touches)
 
 -- one of the accesses writes the cell
 abbrev pub is_written : ℕ → List Access → Bool

@@ -29,7 +29,7 @@ use Rattle.floor_rule.specs.Floors.{Floor, Home, Away, Empty, Holds, put, put_tu
 use Rattle.floor_rule.specs.Fitting.{HomeFits, MayRunFrom}
 use Rattle.floor_rule.specs.Rule.{KeepsRule}
 use Rattle.floor_rule.specs.Steps.{MayCommit, after_entry, entry_drawn, first_turn, row_after, row_with_child, without_child}
-use Rattle.floor_rule.specs.Touches.{accesses_of, touches_of}
+use Rattle.floor_rule.specs.Touches.{StandFor, touches_of}
 use Rattle.floor_rule.proofs.Puts.{put_here, some_one}
 use Rattle.floor_rule.proofs.RuleSteps.{commit, one_drawn}
 use Rattle.floor_table.specs.declared.view.SeatKind.TheVariants.{Spent}
@@ -94,7 +94,7 @@ module _ (p : Program) (lim : Bounds) (s : Table) (kept : TableKeeps p lim s) (i
     running = may.running;
     own = λ o is. may.own o (sym (segment_id p lim s kept id v at live) ∙ is);
     accesses = may.accesses;
-    exactly = may.exactly ∙ ap (λ (o : Option OpenSegment). accesses_of (touches_of o)) (sym (segment_id p lim s kept id v at live));
+    touches = subst (λ (o : Option OpenSegment). StandFor p (touches_of o) may.accesses) (sym (segment_id p lim s kept id v at live)) may.touches;
     means = may.means;
   }
 

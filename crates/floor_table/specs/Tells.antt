@@ -24,7 +24,7 @@ use Rattle.floor_rule.specs.declared.view.Touch.TheVariants.{Read, Write}
 use Rattle.floor_rule.specs.Fitting.{MayRunFrom}
 use Rattle.floor_rule.specs.Rows.{phase_of, slot_of}
 use Rattle.floor_rule.specs.Steps.{IsPhaseFor, end_after, first_turn, row_after, with_row}
-use Rattle.floor_rule.specs.Touches.{IsAccessFrom, accesses_of, cell_accesses, touches_of}
+use Rattle.floor_rule.specs.Touches.{IsAccessFrom, StandFor, touches_of}
 use Rattle.floor_rule.specs.LastTouches.{last_touched}
 use Rattle.floor_table.specs.declared.view.View.{View}
 use Rattle.floor_table.specs.FloorOf.{turn_in}
@@ -129,7 +129,7 @@ pub record MayDraw (p : Program) (me : Seat) (t : ℕ) (turn : HeldTurn) (frame 
   pub running : turn.phase ≡ Running
   pub own : (s : OpenSegment) → me.0.segment ≡ Some s → s.task ≡ t
   pub accesses : List Access
-  pub exactly : cell_accesses accesses ≡ accesses_of (touches_of me.0.segment)
+  pub touches : StandFor p (touches_of me.0.segment) accesses
   pub means : (cells : List ℤ) → Agrees cells accesses
       → segment p ready cells ≡ record { frame = frame; cells = after cells accesses; accesses = accesses; stop = stop }
 

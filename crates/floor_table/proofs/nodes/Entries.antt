@@ -22,7 +22,7 @@ use Rattle.floor_rule.specs.Fitting.{MayRunFrom}
 use Rattle.floor_rule.specs.Floors.{Floor, put, put_turn}
 use Rattle.floor_rule.specs.Rule.{KeepsRule}
 use Rattle.floor_rule.specs.Steps.{MayCommit, after_entry, entry_drawn, first_turn, row_after, row_with_child, without_child}
-use Rattle.floor_rule.specs.Touches.{accesses_of, touches_of}
+use Rattle.floor_rule.specs.Touches.{StandFor, touches_of}
 use Rattle.floor_rule.proofs.Puts.{put_here}
 use Rattle.floor_rule.proofs.RuleSteps.{commit}
 use Rattle.floor_table.specs.declared.view.SeatKind.TheVariants.{Spent}
@@ -98,7 +98,7 @@ module _ (nodes : List (List Elem)) (p : Program) (lim : Bounds) (s : TreeTable)
       running = may.running;
       own = λ o is. may.own o (sym (segment_id p lim fs kept.floor id v.floor at_floor live) ∙ is);
       accesses = may.accesses;
-      exactly = may.exactly ∙ ap (λ (o : Option OpenSegment). accesses_of (touches_of o)) (sym (segment_id p lim fs kept.floor id v.floor at_floor live));
+      touches = subst (λ (o : Option OpenSegment). StandFor p (touches_of o) may.accesses) (sym (segment_id p lim fs kept.floor id v.floor at_floor live)) may.touches;
       means = may.means;
     }
 
