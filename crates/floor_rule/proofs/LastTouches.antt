@@ -33,7 +33,7 @@ last_here c k value earlier same = ap (λ (b : Bool). if b then Some value else 
 last_else : (c k : ℕ) (value : ℤ) (earlier : Option ℤ) → c ≢ k → (if nat_eq c k then Some value else earlier) ≡ earlier
 last_else c k value earlier other = ap (λ (b : Bool). if b then Some value else earlier) (ne_eqb c k other)
 
-set_here : (cells : List ℤ) (c : ℕ) (value : ℤ) → c < length cells → cell_at (slice_set cells c value) c ≡ value
+pub set_here : (cells : List ℤ) (c : ℕ) (value : ℤ) → c < length cells → cell_at (slice_set cells c value) c ≡ value
 set_here [] c value below = absurd (omega (arith, below))
 set_here (x ∷ cells) zero value below = refl
 set_here (x ∷ cells) (suc c) value below = set_here cells c value (omega (arith, below))

@@ -2,6 +2,7 @@
 pub mod Told
 -- Segments over a stand.
 pub mod Touching
+pub mod InHand
 pub mod Carrying
 -- Turns that were taken, that are given, and tasks that are left.
 pub mod Taking

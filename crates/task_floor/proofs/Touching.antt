@@ -2,23 +2,27 @@
 use Rattle.std.proofs.Common.{◌≡◌, ◌≢◌, ℕ, ℤ, sym, ◌∙◌}
 use Rattle.twe_base.specs.Limits.{Bounds}
 use Rattle.twe_program.specs.Program.{Program}
-use Rattle.seg_exec.specs.Access.{HasRead, HasWritten, MaySame, Ways, ways_of}
+use Rattle.seg_exec.specs.Access.{Access, KnowsNow, MaySame}
 use Rattle.floor_rule.specs.declared.view.Touch.{Touch}
 use Rattle.floor_rule.specs.declared.view.Touch.TheVariants.{Read, Write}
 use Rattle.floor_table.specs.declared.view.SeatKind.TheVariants.{Spent}
-use Rattle.floor_table.specs.Tells.{IsLastTouch, IsLatest, WroteCell}
-use Rattle.task_floor.specs.steps.Stands.{HasLoaded}
+use Rattle.floor_table.specs.Tells.{IsLatest, WroteCell}
+use Rattle.task_floor.specs.steps.Stands.{HasLoaded, MayAccess}
 use Rattle.task_floor.proofs.steps.Touching as floor
 use Rattle.floor_table.specs.nodes.FloorSeats.{floor_seat}
-use Rattle.task_floor.specs.Segments.{HasTouched, MayReadCell, MayWriteCell, StandFollows, stand_knows}
+use Rattle.task_floor.specs.Segments.{HasTouched, MayReadCell, MayWriteCell, stand_knows}
 use Rattle.task_floor.specs.Stands.{StaysInTree, TreeStand, floor_stand}
 
--- what a stand of this program states
-abbrev pub tree_ways : Program → Bounds → Ways TreeStand
-tree_ways p lim = ways_of stand_knows (MayReadCell p) (MayWriteCell p) (StandFollows lim)
+-- the same may be read and written as before
+pub may_same : (p : Program) (lim : Bounds) (old new : TreeStand) (touch : Touch) → HasTouched lim old new touch → (x : Access) → MayAccess p (floor_seat old.me) x → MaySame (floor.stand_ways p) (floor_stand old) (floor_stand new)
+may_same p lim old new touch after x may = floor.may_same p (floor_stand old) (floor_stand new) touch after.floor x may
 
-same_as_floor : (p : Program) (lim : Bounds) (old new : TreeStand) → MaySame (floor.stand_ways p) (floor_stand old) (floor_stand new) → MaySame (tree_ways p lim) old new
-same_as_floor p lim old new same = record { read = same.read; write = same.write }
+-- the value of the touched cell is known
+pub knows_read : (lim : Bounds) (old new : TreeStand) (cell : ℕ) (value : ℤ) → HasTouched lim old new (Read cell value) → KnowsNow (stand_knows old) cell value (stand_knows new)
+knows_read lim old new cell value after = floor.knows_read (floor_stand old) (floor_stand new) cell value after.floor
+
+pub knows_written : (lim : Bounds) (old new : TreeStand) (cell : ℕ) (value : ℤ) → HasTouched lim old new (Write cell value) → KnowsNow (stand_knows old) cell value (stand_knows new)
+knows_written lim old new cell value after = floor.knows_written (floor_stand old) (floor_stand new) cell value after.floor
 
 -- What a load and a store of the floor do to a stand that may make them.
 
@@ -35,14 +39,3 @@ stored_touch p lim old new cell value may stored stays same = record { floor = f
 -- the stand is as live as it was
 pub touch_live : (lim : Bounds) (old new : TreeStand) (touch : Touch) → HasTouched lim old new touch → old.me.0.floor.kind ≢ Spent → new.me.0.floor.kind ≢ Spent
 touch_live lim old new touch after live spent = live (sym (floor.touch_kind (floor_stand old) (floor_stand new) touch after.floor) ∙ spent)
-
-pub has_read : (p : Program) (lim : Bounds) (old new : TreeStand) (cell : ℕ) (value : ℤ) → MayReadCell p old cell → IsLastTouch (floor_seat old.me) cell value → HasTouched lim old new (Read cell value)
-    → HasRead (tree_ways p lim) old cell value new
-has_read p lim old new cell value may last after =
-    let read = floor.has_read p (floor_stand old) (floor_stand new) cell value may last after.floor in
-    record { answer = read.answer; known = read.known; same = same_as_floor p lim old new read.same; rule = after }
-
-pub has_written : (p : Program) (lim : Bounds) (old new : TreeStand) (cell : ℕ) (value : ℤ) → MayWriteCell p old cell → HasTouched lim old new (Write cell value) → HasWritten (tree_ways p lim) old cell value new
-has_written p lim old new cell value may after =
-    let wrote = floor.has_written p (floor_stand old) (floor_stand new) cell value may after.floor in
-    record { known = wrote.known; same = same_as_floor p lim old new wrote.same; rule = after }

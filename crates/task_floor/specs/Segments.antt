@@ -1,14 +1,12 @@
 -- Segments over the floor. A stand carries out the segment of the task whose slot is the latest that it has out.
-use Rattle.std.specs.Prelude.{◌≡◌, ℕ, ℤ, Option}
+use Rattle.std.specs.Prelude.{ℕ, ℤ, Option}
 use Rattle.twe_base.specs.Limits.{Bounds}
 use Rattle.twe_program.specs.Program.{Program}
-use Rattle.seg_exec.specs.Access.{Access, Reads, Writes, Prints}
 use Rattle.floor_rule.specs.declared.view.Touch.{Touch}
-use Rattle.floor_rule.specs.declared.view.Touch.TheVariants.{Read, Write}
 use Rattle.task_floor.specs.steps.Segments as floor
 use Rattle.task_floor.specs.Stands.{StaysInTree, TreeStand, floor_stand}
 
--- What a stand states as an implementation of cells: what its floor's seat does.
+-- What a stand knows of cells and may do: what its floor's seat does.
 
 -- the value that it knows of a cell that the open segment has touched
 abbrev pub stand_knows : TreeStand → ℕ → Option ℤ
@@ -26,9 +24,3 @@ MayWriteCell p stand = floor.MayWriteCell p (floor_stand stand)
 pub record HasTouched (lim : Bounds) (old new : TreeStand) (touch : Touch) : Type 0 where
   pub floor : floor.HasTouched (floor_stand old) (floor_stand new) touch
   pub stays : StaysInTree lim old.me new.me
-
--- each access is a touch
-abbrev pub StandFollows : Bounds → TreeStand → Access → TreeStand → Type 0
-StandFollows lim old (Reads cell value) new = HasTouched lim old new (Read cell value)
-StandFollows lim old (Writes cell value) new = HasTouched lim old new (Write cell value)
-StandFollows lim old (Prints value) new = new ≡ old

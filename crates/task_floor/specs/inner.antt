@@ -1,3 +1,4 @@
 pub mod Recording
 pub mod Emptying
 pub mod Bringing
+pub mod InHand

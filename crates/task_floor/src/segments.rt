@@ -1,14 +1,27 @@
 //! Segments over the cells of the floor.
-ghost use Rattle.std.specs.Prelude.{◌≡◌, ◌≢◌, ℕ, IfOk};
+ghost use Rattle.std.specs.Prelude.{◌≡◌, ◌≢◌, ℕ, IfOk, None};
+ghost use Rattle.seg_exec.specs.Access.{HasRead};
 ghost use Rattle.seg_exec.specs.Segment.{HasRoomToSpawn};
 ghost use Rattle.floor_rule.specs.declared.view.HeldTurn.{HeldTurn};
 ghost use Rattle.floor_table.specs.declared.view.SeatKind.TheVariants.{Spent};
 ghost use Rattle.task_floor.specs.steps.Segments.{HasRunSegment, MayRunSegment};
 ghost use Rattle.floor_table.specs.nodes.FloorSeats.{HasTaskSlots, floor_seat};
-ghost use Rattle.task_floor.specs.Segments.{MayReadCell, MayWriteCell, StandFollows, stand_knows};
+ghost use Rattle.task_floor.specs.Segments.{MayReadCell};
 ghost use Rattle.task_floor.specs.Stands.{StaysInTree};
+ghost use Rattle.task_floor.specs.declared.in_hand.CellInHand.TheVariants.{Nothing};
+ghost use Rattle.task_floor.specs.inner.InHand.{
+  GoesOver,
+  IsFreeFor,
+  MayReadHere,
+  MayWriteHere,
+  SegFollows,
+  seg_knows,
+  seg_ways,
+  value_in_hand,
+};
 
 use crate::floor::{Floor, Stand};
+use crate::in_hand::CellInHand;
 use floor_table::Named;
 use floor_table::nodes::Planted;
 use run_gates::Gate;
@@ -19,59 +32,111 @@ use twe_base::Memory;
 use twe_program::Prog;
 
 /// The cells of the floor, as the segment of one task sees them: the task whose slot is the latest that the stand has out. It
-/// has the stand while the segment is carried out, and tells the gate of each access before it is made. The stand holds no node.
-/// Clauses see the stand.
+/// has the stand while the segment is carried out, and tells the gate of each access before it is made. The cell that it touched
+/// last is in hand: it's read again and written without a step of the floor, and its value is stored when another cell is
+/// touched, or at the end of the segment. No other task touches a cell that this one writes meanwhile. The stand holds no node.
+/// Clauses see the stand and the cell in hand.
 #[derive(Drop)]
-pub struct Seg<'a, N: Named + Planted, G> {
+pub(crate) struct Seg<'a, N: Named + Planted, G> {
     floor: &'a Floor<N>,
     gate: &'a G,
     // The number that the gate is told.
     task: u32,
     stand: Stand,
+    hand: CellInHand,
 }
 
 impl<'a, N: Named + Planted, G> Model for Seg<'a, N, G> {
     ghost use Rattle.std.specs.Prelude.{◌≡◌, ◌≢◌};
     ghost use Rattle.floor_table.specs.declared.view.SeatKind.TheVariants.{Spent};
     ghost use Rattle.floor_table.specs.nodes.FloorSeats.{HasTaskSlots};
-    ghost use Rattle.task_floor.specs.Stands.{TreeStand};
+    ghost use Rattle.task_floor.specs.inner.InHand.{HandFits, SegView};
 
-    ghost Value = { TreeStand };
+    ghost Value = { SegView };
 
-    ghost view = { λ seg. seg.stand };
+    ghost view = { λ seg. record { stand = seg.stand; hand = seg.hand } };
 
     ghost invariant = { λ seg. (seg.stand.table_id ≡ seg.floor.now) × (seg.stand.me.0.floor.kind ≢ Spent)
-        × HasTaskSlots N.lim.tasks seg.stand.me.1 };
+        × HasTaskSlots N.lim.tasks seg.stand.me.1 × HandFits N.prog seg.stand seg.hand };
 }
 
-/// The stand knows the cells that the segment has touched: each has the value of its last touch. It may read and write what the
-/// segment may, over whatever cells. Each access is a touch of the open segment.
+/// A segment knows the cells that it has touched: each has the value of its last touch. It may read and write what its task may,
+/// over whatever cells. What the stand has touched and the cell in hand stand for all of its accesses.
 impl<'a, N: Named + Planted, G: Gate> Cells for Seg<'a, N, G> {
-    ghost known = { stand_knows };
+    ghost known = { seg_knows };
 
-    ghost may_read = { MayReadCell N.prog };
+    ghost may_read = { MayReadHere N.prog };
 
-    ghost may_write = { MayWriteCell N.prog };
+    ghost may_write = { MayWriteHere N.prog };
 
-    ghost rule = { StandFollows N.lim };
+    ghost rule = { SegFollows N.prog };
 
+    #[inline(always)]
     fn get(&mut self, cell: u32) -> i32 {
         self.gate.touch(self.task);
-        self.floor.load(&mut self.stand, cell)
+        match self.hand.value_of(cell) {
+            Some(value) => value,
+            None => self.fetch(cell),
+        }
     }
 
+    #[inline(always)]
     fn set(&mut self, cell: u32, value: i32) {
         self.gate.touch(self.task);
-        self.floor.store(&mut self.stand, cell, value);
+        self.make_free(cell);
+        self.hand = CellInHand::Written { cell, value };
     }
 }
 
 impl<'a, N: Named + Planted, G> Seg<'a, N, G> {
-    /// The stand, with what the segment has touched so far.
-    pub fn into_stand(self) -> Stand
-        ensures { result ≡ self.entry }
+    /// Puts the cell in hand down: if the floor doesn't have its value yet, stores it there.
+    fn put_down(&mut self)
+        ensures goes { GoesOver N.prog self.old self.new }
+        ensures empty { self.new.hand ≡ Nothing }
     {
-        let Seg { stand, .. } = self;
+        match self.hand {
+            CellInHand::Nothing => {}
+            CellInHand::Known { .. } => {
+                self.hand = CellInHand::Nothing;
+            }
+            CellInHand::Written { cell, value } => {
+                self.floor.store(&mut self.stand, cell, value);
+                self.hand = CellInHand::Nothing;
+            }
+        }
+    }
+
+    /// Puts the cell in hand down if it is another one.
+    #[inline(always)]
+    fn make_free(&mut self, cell: u32)
+        ensures goes { GoesOver N.prog self.old self.new }
+        ensures free { IsFreeFor self.new.hand cell }
+    {
+        if self.hand.value_of(cell).is_none() {
+            self.put_down();
+        }
+    }
+
+    /// Reads a cell that is not in hand, and takes it in hand.
+    fn fetch(&mut self, cell: u32) -> i32
+        requires may { MayReadCell N.prog self.old.stand cell }
+        requires other { value_in_hand self.old.hand cell ≡ None }
+        ensures { HasRead (seg_ways N.prog) self.old cell result self.new }
+    {
+        self.put_down();
+        let value = self.floor.load(&mut self.stand, cell);
+        self.hand = CellInHand::Known { cell, value };
+        value
+    }
+
+    /// The stand, with what the segment has touched so far. The floor has the value of each cell that was written.
+    fn into_stand(self) -> Stand
+        ensures goes { GoesOver N.prog self.entry (record { stand = result; hand = Nothing }) }
+        ensures slots { HasTaskSlots N.lim.tasks result.me.1 }
+    {
+        let mut segment = self;
+        segment.put_down();
+        let Seg { stand, .. } = segment;
         stand
     }
 }
@@ -79,17 +144,18 @@ impl<'a, N: Named + Planted, G> Seg<'a, N, G> {
 impl<N: Named + Planted> Floor<N> {
     /// The cells of the floor for the segment of the task whose slot is the latest that the stand has out. The gate is told of
     /// each access with this number.
-    pub fn segment<'a, G: Gate>(&'a self, stand: Stand, task: u32, gate: &'a G) -> Seg<'a, N, G>
+    fn segment<'a, G: Gate>(&'a self, stand: Stand, task: u32, gate: &'a G) -> Seg<'a, N, G>
         requires here { stand.table_id ≡ self.now }
         requires live { stand.me.0.floor.kind ≢ Spent }
         requires slots { HasTaskSlots N.lim.tasks stand.me.1 }
-        ensures { result ≡ stand }
+        ensures { result ≡ record { stand = stand; hand = Nothing } }
     {
         Seg {
             floor: self,
             gate,
             task,
             stand,
+            hand: CellInHand::Nothing,
         }
     }
 

@@ -1,16 +1,22 @@
 -- What a stand that touches a cell may do afterwards, and what it knows.
 use Rattle.std.proofs.Common.{◌≡◌, ℕ, ℤ, Some, sym, ap, subst, ◌∙◌}
 use Rattle.twe_program.specs.Program.{Program}
-use Rattle.seg_exec.specs.Access.{Access, HasRead, HasWritten, KnowsNow, MaySame, Reads, Writes, Ways, ways_of}
+use Rattle.seg_exec.specs.Access.{Access, KnowsNow, MaySame, Prints, Reads, Writes, Ways, ways_of}
 use Rattle.floor_rule.specs.declared.view.OpenSegment.{OpenSegment}
 use Rattle.floor_rule.specs.declared.view.Touch.{Touch}
 use Rattle.floor_rule.specs.declared.view.Touch.TheVariants.{Read, Write}
 use Rattle.floor_rule.specs.LastTouches.{last_touched}
 use Rattle.floor_rule.specs.Touches.{touches_of}
 use Rattle.floor_rule.proofs.Puts.{some_one}
-use Rattle.floor_table.specs.Tells.{IsLastTouch, IsLatest, Seat, WroteCell, with_touch}
-use Rattle.task_floor.specs.steps.Segments.{HasTouched, MayReadCell, MayWriteCell, StandFollows, StandValue, latest_task, stand_knows}
+use Rattle.floor_table.specs.Tells.{IsLatest, Seat, WroteCell, with_touch}
+use Rattle.task_floor.specs.steps.Segments.{HasTouched, MayReadCell, MayWriteCell, StandValue, latest_task, stand_knows}
 use Rattle.task_floor.specs.steps.Stands.{HasLoaded, MayAccess}
+
+-- each access is a touch
+abbrev pub StandFollows : StandValue → Access → StandValue → Type 0
+StandFollows old (Reads cell value) new = HasTouched old new (Read cell value)
+StandFollows old (Writes cell value) new = HasTouched old new (Write cell value)
+StandFollows old (Prints value) new = new ≡ old
 
 -- what a stand of this program states
 abbrev pub stand_ways : Program → Ways StandValue
@@ -96,22 +102,6 @@ stored_touch p old new cell value may stored same = record { seat = stored (late
 
 pub touch_kind : (old new : StandValue) (touch : Touch) → HasTouched old new touch → new.me.0.kind ≡ old.me.0.kind
 touch_kind old new touch after = ap (λ (me : Seat). me.0.kind) after.seat
-
-pub has_read : (p : Program) (old new : StandValue) (cell : ℕ) (value : ℤ) → MayReadCell p old cell → IsLastTouch old.me cell value → HasTouched old new (Read cell value)
-    → HasRead (stand_ways p) old cell value new
-has_read p old new cell value may last after = record {
-  answer = last;
-  known = knows_read old new cell value after;
-  same = may_same p old new (Read cell value) after (Reads cell may.value) may.may;
-  rule = after;
-}
-
-pub has_written : (p : Program) (old new : StandValue) (cell : ℕ) (value : ℤ) → MayWriteCell p old cell → HasTouched old new (Write cell value) → HasWritten (stand_ways p) old cell value new
-has_written p old new cell value may after = record {
-  known = knows_written old new cell value after;
-  same = may_same p old new (Write cell value) after (Writes cell may.value) may.may;
-  rule = after;
-}
 
 -- a write of another value is as good: the value does not count
 pub may_write_value : (p : Program) (me : Seat) (cell : ℕ) (any value : ℤ) → MayAccess p me (Writes cell any) → MayAccess p me (Writes cell value)

@@ -4,12 +4,11 @@ use Rattle.atomic_table.specs.declared.shared.Seat.{Seat as TableSeat}
 use Rattle.twe_program.specs.Program.{Program, cell_count}
 use Rattle.seg_exec.specs.declared.frame.Frame.{Frame}
 use Rattle.seg_exec.specs.declared.stop.Stop.{Stop}
-use Rattle.seg_exec.specs.Access.{Access, Reads, Writes, Prints}
+use Rattle.seg_exec.specs.Access.{Reads, Writes}
 use Rattle.floor_rule.specs.declared.view.HeldTurn.{HeldTurn}
 use Rattle.floor_rule.specs.declared.view.Phase.TheVariants.{Running}
 use Rattle.floor_rule.specs.declared.view.TaskSlot.{TaskSlot}
 use Rattle.floor_rule.specs.declared.view.Touch.{Touch}
-use Rattle.floor_rule.specs.declared.view.Touch.TheVariants.{Read, Write}
 use Rattle.floor_rule.specs.Fitting.{MayRunFrom}
 use Rattle.floor_rule.specs.LastTouches.{last_touched}
 use Rattle.floor_rule.specs.Touches.{touches_of}
@@ -49,12 +48,6 @@ pub record MayWriteCell (p : Program) (stand : StandValue) (cell : ℕ) : Type 0
 pub record HasTouched (old new : StandValue) (touch : Touch) : Type 0 where
   pub seat : new.me ≡ (with_touch old.me.0 (latest_task old.me.1) touch, old.me.1)
   pub same : (new.table_id ≡ old.table_id) × (new.id ≡ old.id)
-
--- each access is a touch
-abbrev pub StandFollows : StandValue → Access → StandValue → Type 0
-StandFollows old (Reads cell value) new = HasTouched old new (Read cell value)
-StandFollows old (Writes cell value) new = HasTouched old new (Write cell value)
-StandFollows old (Prints value) new = new ≡ old
 
 -- Running a segment.
 
