@@ -22,15 +22,14 @@ impl Standing {
 
 /// Where a task with this frame stands; none if its body has ended, or too many blocks are open.
 pub(crate) fn standing_of(frame: &Frame) -> Option<Standing> {
-    let open_blocks = &frame.body.as_ref()?.open_blocks;
-    let (middle, inner) = match open_blocks.as_slice() {
-        [_] => (None, None),
-        [_, middle] => (Some(*middle), None),
-        [_, middle, inner] => (Some(*middle), Some(*inner)),
+    let (body, middle, inner) = match frame.body.as_ref()?.open_blocks.as_slice() {
+        [body] => (body, None, None),
+        [body, middle] => (body, Some(*middle), None),
+        [body, middle, inner] => (body, Some(*middle), Some(*inner)),
         _ => return None,
     };
     Some(Standing {
-        body: *open_blocks.get(0)?,
+        body: *body,
         middle,
         inner,
     })

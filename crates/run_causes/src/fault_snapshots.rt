@@ -20,17 +20,21 @@ fn is_fault(end: End) -> bool
 }
 
 /// What is there at a task too many, which is refused between two segments of a task whose body is open.
-fn snapshot_between(alloc: Global, cells: Ints, body: Option<OpenBody>) -> Option<FaultSnapshot>
-    ensures { result ≡ snapshot_between cells body }
+fn snapshot_between(
+    alloc: Global,
+    cells: Ints,
+    body: Option<OpenBody>,
+) -> Result<Option<FaultSnapshot>, Memory>
+    ensures { IfOk result (λ snapshot. snapshot ≡ snapshot_between cells body) }
 {
     match body {
-        None => None,
-        Some(body) => Some(FaultSnapshot {
+        None => Ok(None),
+        Some(body) => Ok(Some(FaultSnapshot {
             cause: None,
-            vars: body.vars,
+            vars: body.vars.into_list(alloc)?,
             calls: List::new(alloc),
             cells,
-        }),
+        })),
     }
 }
 
@@ -46,7 +50,7 @@ fn snapshot_at_stop(
 {
     let mut cells = cells.copy(alloc)?;
     run_segment_over_list(alloc, p, frame, &mut cells)?;
-    Ok(snapshot_between(alloc, cells, frame.body.take()))
+    snapshot_between(alloc, cells, frame.body.take())
 }
 
 /// The snapshot of a fault of this kind that the segment of this frame ends with.

@@ -4,9 +4,10 @@ ghost use Rattle.twe_program.specs.Statement.{statements_of};
 ghost use Rattle.seg_exec.specs.Meaning.{body_of, var_count_of, vars_at_start};
 ghost use Rattle.seg_exec.specs.inner.steps.Bodies.{with_active};
 
+use crate::short_list::ShortList;
 use crate::steps::variables::Variables;
 use std::alloc::Global;
-use twe_base::{Ints, Memory};
+use twe_base::Memory;
 use twe_program::{Decl, Stmt};
 
 /// The statements of a declaration; none if there is no such declaration.
@@ -52,16 +53,17 @@ pub(crate) fn start(decl: Option<&Decl>, vars: &mut Variables) -> Result<(), Mem
     push_zeros(vars, locals)
 }
 
-/// The variables of a body at its start: the arguments, and then 0 for each local. They take one piece of memory.
+/// The variables of a body at its start: the arguments, and then 0 for each local. More than four take one piece of memory.
 pub(crate) fn vars_at_start(
     alloc: Global,
     decl: Option<&Decl>,
     args: &[i32],
-) -> Result<Ints, Memory>
+) -> Result<ShortList<i32, 4>, Memory>
     ensures { IfOk result (λ vars. vars ≡ vars_at_start (option_copied decl.entry) args.now) }
 {
-    let mut vars = Variables::new(Ints::with_capacity(alloc, var_count(decl))?);
+    let count = var_count(decl);
+    let mut vars = ShortList::with_capacity(alloc, count)?;
     vars.push_all(args)?;
-    start(decl, &mut vars)?;
-    vars.into_active(alloc)
+    vars.push_times(0, count.saturating_sub(args.len()))?;
+    Ok(vars)
 }

@@ -6,6 +6,7 @@ ghost use Rattle.seg_exec.specs.Entry.{effects_at, entry_body, entry_frame, fram
 use crate::body::vars_at_start;
 use crate::children::Children;
 use crate::frame::{Frame, Next, OpenBody, Position};
+use crate::short_list::ShortList;
 use effect_sets::{Effects, Summary};
 use region_paths::Elem;
 use std::alloc::{AllocError, Global};
@@ -22,15 +23,14 @@ fn future_count(decl: Option<&Decl>) -> usize
     }
 }
 
-/// A body before its first statement.
+/// A body before its first statement. It takes memory only for more than four variables.
 fn entry_body(alloc: Global, decl: Option<&Decl>, args: &[i32]) -> Result<OpenBody, Memory>
     ensures { IfOk result (λ body. body ≡ entry_body (option_copied decl.entry) args.now) }
 {
-    let mut open_blocks = List::with_capacity(alloc, 1)?;
-    open_blocks.push(Position { block: 0, after: 0 })?;
+    let body = [Position { block: 0, after: 0 }];
     Ok(OpenBody {
         vars: vars_at_start(alloc, decl, args)?,
-        open_blocks,
+        open_blocks: ShortList::from_slice(alloc, &body)?,
     })
 }
 

@@ -1,10 +1,11 @@
 //! The frame of a task: what it keeps between its segments.
 
 use crate::children::Children;
+use crate::short_list::ShortList;
 use twe_base::{Ints, List};
 
 /// How far a block of a body has been executed.
-#[derive(Clone, Copy, Debug, PartialEq, Eq)]
+#[derive(Clone, Copy, Debug, Default, PartialEq, Eq)]
 pub struct Position {
     /// The number of the block among those of its statement, in the order of the text, counted from 0. It is 0 for the
     /// body itself.
@@ -13,14 +14,15 @@ pub struct Position {
     pub after: usize,
 }
 
-/// The body of a task whose execution has begun and not ended.
+/// The body of a task whose execution has begun and not ended. It takes memory of its own only if it has more than four
+/// variables, or more than one block is open.
 #[derive(Debug, Drop)]
 pub struct OpenBody {
     /// The values of the variables.
-    pub vars: Ints,
+    pub vars: ShortList<i32, 4>,
     /// The open blocks, the outermost first. Each further block stands in the last statement that has begun in the block
     /// before it.
-    pub open_blocks: List<Position>,
+    pub open_blocks: ShortList<Position, 1>,
 }
 
 /// What a task does next.

@@ -19,6 +19,7 @@ mod give;
 mod laws;
 mod operation;
 mod segment;
+mod short_list;
 mod snapshot;
 mod steps;
 mod stop;
@@ -36,5 +37,6 @@ pub use laws::{
 };
 pub use operation::Operation;
 pub use segment::{run_segment, run_segment_over_list};
+pub use short_list::ShortList;
 pub use snapshot::{FaultSnapshot, fault_snapshot};
 pub use stop::Stop;

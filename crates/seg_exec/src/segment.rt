@@ -14,6 +14,7 @@ use crate::children::Children;
 use crate::entry::{effects_at, frame_with};
 use crate::frame::{Frame, Next, OpenBody, Position};
 use crate::operation::Operation;
+use crate::short_list::ShortList;
 use crate::steps::continuation::{OpenBlock, Suspension};
 use crate::steps::frames::Frames;
 use crate::steps::machine::Machine;
@@ -144,8 +145,8 @@ fn finish(
                 positions,
             } = held.into_inner();
             frame.body = Some(OpenBody {
-                vars: vars.into_active(alloc)?,
-                open_blocks: positions.into_list(),
+                vars: ShortList::from_list(vars.into_active(alloc)?),
+                open_blocks: ShortList::from_list(positions.into_list()),
             });
             frame.next = next_of(frame, &operation);
             reserve_for(&mut frame.out, &operation)?;
@@ -194,12 +195,12 @@ pub(crate) fn machine_at<'a>(
     let Some(body) = &frame.body else {
         return Ok(None);
     };
-    let vars = body.vars.copy(alloc)?;
+    let vars = Ints::from_slice(alloc, body.vars.as_slice())?;
     let machine = machine_with(alloc, p, frame, vars, body.open_blocks.as_slice())?;
     Ok(Some(machine))
 }
 
-/// The same, with the body taken out of the frame, so that the evaluator has its variables themselves.
+/// The same, with the body taken out of the frame. The evaluator has the memory of its variables, if they have any.
 fn take_machine<'a>(
     alloc: Global,
     p: &'a Prog,
@@ -212,6 +213,7 @@ fn take_machine<'a>(
         return Ok(None);
     };
     let OpenBody { vars, open_blocks } = body;
+    let vars = vars.into_list(alloc)?;
     let machine = machine_with(alloc, p, frame, vars, open_blocks.as_slice())?;
     Ok(Some(machine))
 }
