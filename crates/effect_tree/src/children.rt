@@ -11,7 +11,7 @@ use twe_base::Memory;
 fn empty_lists(alloc: Global, count: u32) -> Result<Vec<Vec<u32>>, Memory>
     ensures { IfOk result (λ lists. items_of lists ≡ replicate count []) }
 {
-    let mut lists = Vec::new(alloc);
+    let mut lists = Vec::with_capacity(alloc, count as usize)?;
     for _ in 0..count {
         lists.push(Vec::new(alloc))?;
     }

@@ -27,6 +27,7 @@ impl PrefixTree {
         requires { at < length self.old }
         ensures { OnOk result (Grows self.old self.new (IsRowElement (path_of self.old at) count)) }
     {
+        self.reserve(count)?;
         for i in 0..count {
             self.child_or_new(at, Part::index(i))?;
         }

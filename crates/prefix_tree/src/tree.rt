@@ -81,6 +81,15 @@ impl PrefixTree {
         self.children.get(&Step { from, part }).copied()
     }
 
+    /// Reserves room for so many more nodes, so that the tables need not grow for each of them.
+    pub(crate) fn reserve(&mut self, count: u32) -> Result<(), Memory>
+        ensures { self.new ≡ self.old }
+    {
+        self.steps.reserve(count as usize)?;
+        self.children.reserve(count as usize)?;
+        Ok(())
+    }
+
     /// Returns the node right below `from` whose path ends in `part`, and adds it if it isn't there. It fails if memory
     /// runs out, or if there are too many nodes: for 32 bits to number them, or for the map, which has some two billion
     /// at most.
