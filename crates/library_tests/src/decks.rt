@@ -1,9 +1,10 @@
 //! What no clause says of a deck that was found empty: a thief looks there again the next time.
-ghost use Rattle.std.specs.Prelude.{◌≡◌, ◌<◌, All};
+ghost use Rattle.std.specs.Prelude.{◌≡◌, All};
 
 use std::sync::Wait;
 use std::test::Fail;
 use steal_pool::{Deck, Decks, make_decks};
+use twe_base::Memory;
 
 /// A worker with its deck.
 #[derive(Drop)]
@@ -23,23 +24,13 @@ fn next_holder(decks: &mut Decks) -> Option<Holder>
 
 impl Holder {
     /// Pushes 7 to its own deck.
-    fn push_seven(&mut self) {
-        push_spare(&mut self.deck, 7);
+    fn push_seven(&mut self) -> Result<(), Memory> {
+        self.deck.push(7)
     }
 
     /// Steals from the first deck.
     fn steal_first<R: Wait>(&mut self, rt: &R) -> Option<u32> {
         steal_first(rt, &mut self.deck)
-    }
-}
-
-/// Pushes a number, if a push is left.
-fn push_spare(deck: &mut Deck, number: u32)
-    requires { number < deck.old.bound }
-    ensures { deck.new.bound ≡ deck.old.bound }
-{
-    if deck.spare() > 0 {
-        deck.push(number);
     }
 }
 
@@ -56,7 +47,7 @@ fn steal_first<R: Wait>(rt: &R, deck: &mut Deck) -> Option<u32>
 
 #[test]
 fn a_thief_looks_again(rt: HostRuntime) -> Result<(), Fail> {
-    let mut decks = make_decks(rt.alloc(), 2, 1, 9)?;
+    let mut decks = make_decks(rt.alloc(), 2, 9)?;
     let Some(mut thief) = next_holder(&mut decks) else {
         return Err("two decks")?;
     };
@@ -64,7 +55,7 @@ fn a_thief_looks_again(rt: HostRuntime) -> Result<(), Fail> {
         return Err("two decks")?;
     };
     assert_eq!(rt; thief.steal_first(&rt), None);
-    owner.push_seven();
+    owner.push_seven()?;
     assert_eq!(rt; thief.steal_first(&rt), Some(7));
     assert_eq!(rt; thief.steal_first(&rt), None);
     Ok(())

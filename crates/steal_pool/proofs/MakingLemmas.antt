@@ -6,21 +6,21 @@ use Rattle.std.proofs.lemmas.List.Edits.{insert-append_left, get_or-insert_at, m
 use Rattle.steal_pool.specs.declared.law.Hand.{Hand}
 use Rattle.steal_pool.specs.Hand.{sharing, guest_of}
 use Rattle.steal_pool.specs.DeckEnds.{DeckId, DeckEnds, hand_at}
-use Rattle.steal_pool.specs.inner.Single.{OwnEnd, OtherEnd, ends_of}
+use Rattle.steal_pool.specs.inner.Single.{DeckEnd, ends_of}
 use Rattle.steal_pool.specs.inner.Making.{met, end_on}
 use Rattle.steal_pool.proofs.PlaceLemmas.{set-insert_here}
 
-inserted : {X : Type 0} (f : OtherEnd → X) (others : List OtherEnd) (theirs : OtherEnd) (n : ℕ) (x : X) → n ≤ length others → insert (map f (others ++ theirs ∷ [])) n x ≡ insert (map f others) n x ++ f theirs ∷ []
+inserted : {X : Type 0} (f : DeckEnd → X) (others : List DeckEnd) (theirs : DeckEnd) (n : ℕ) (x : X) → n ≤ length others → insert (map f (others ++ theirs ∷ [])) n x ≡ insert (map f others) n x ++ f theirs ∷ []
 inserted f others theirs n x within =
     ap (λ xs. insert xs n x) (map-append f others (theirs ∷ [])) ∙ insert-append_left (map f others) (f theirs ∷ []) n x (omega (arith, length-map others f))
 
 -- a worker gets an end of the new deck, and its own deck has a taker more
-pub meets : (n : ℕ) (own own' : OwnEnd) (others others' : List OtherEnd) (theirs : OtherEnd) (old : DeckEnds) (deck : DeckId) (bound : ℕ) → n ≤ length others → ends_of n own others ≡ old
-    → others' ≡ others ++ theirs ∷ [] → theirs.deck ≡ deck → theirs.hand ≡ guest_of bound → own'.deck ≡ own.deck → own'.spare ≡ own.spare → own'.hand ≡ sharing own.hand
+pub meets : (n : ℕ) (own own' : DeckEnd) (others others' : List DeckEnd) (theirs : DeckEnd) (old : DeckEnds) (deck : DeckId) (bound : ℕ) → n ≤ length others → ends_of n own others ≡ old
+    → others' ≡ others ++ theirs ∷ [] → theirs.deck ≡ deck → theirs.hand ≡ guest_of bound → own'.deck ≡ own.deck → own'.hand ≡ sharing own.hand
     → ends_of n own' others' ≡ met deck bound old
-meets n own own' others others' theirs old deck bound within is longer theirs_is fresh same spare shares =
-    let deck_of = λ (end : OtherEnd). end.deck in
-    let hand_of = λ (end : OtherEnd). end.hand in
+meets n own own' others others' theirs old deck bound within is longer theirs_is fresh same shares =
+    let deck_of = λ (end : DeckEnd). end.deck in
+    let hand_of = λ (end : DeckEnd). end.hand in
     let hands = map hand_of others in
     let long : n ≤ length hands = omega (arith, length-map others hand_of) in
     let here : hand_at (ends_of n own others) n ≡ own.hand = get_or-insert_at hands n own.hand (guest_of own.hand.bound) long in
@@ -32,7 +32,6 @@ meets n own own' others others' theirs old deck bound within is longer theirs_is
     inserted hand_of others theirs n own'.hand within ∙ (λ i. own_now i ++ fresh i ∷ []) in
     let changed : ends_of n own' (others ++ theirs ∷ []) ≡ met deck bound (ends_of n own others) = λ i. record {
       number = n;
-      spare = spare i;
       bound = (shares i).bound;
       decks = decks i;
       hands = now i;
@@ -50,7 +49,7 @@ at_rest f before now i x less is here =
     ∙ (get_or-drop i before (i - i) x ∙ ap (λ j. get_or before j x) back)))
 
 -- one worker more has met the new deck
-module _ (own : OwnEnd) (before now : List DeckEnds) (i : ℕ) (x : DeckEnds) (less : i < length before) (agree : All (λ ends. ends.bound ≡ own.hand.bound) before)
+module _ (own : DeckEnd) (before now : List DeckEnds) (i : ℕ) (x : DeckEnds) (less : i < length before) (agree : All (λ ends. ends.bound ≡ own.hand.bound) before)
     (is : now ≡ map (met own.deck own.hand.bound) (take i before) ++ drop i before) (here : x ≡ get_or now i x) where
   first : x ≡ get_or before i x
   first = at_rest (met own.deck own.hand.bound) before now i x less is here
@@ -62,7 +61,7 @@ module _ (own : OwnEnd) (before now : List DeckEnds) (i : ℕ) (x : DeckEnds) (l
   met_more deck x' same met_is =
       ap (λ e. set now i e) (met_is ∙ ((λ j. met (same j) (sym here j).bound (sym here j)) ∙ ap (λ b. met own.deck b x) bound_is)) ∙ map_over_more (met own.deck own.hand.bound) before now i x less is here
 
-  pub ends_more : (others others' : List OtherEnd) (other : OtherEnd) → others ≡ map (end_on own.hand.bound) (take i before) → others' ≡ others ++ other ∷ [] → other ≡ end_on (get_or now i x).bound (get_or now i x) → others' ≡ map (end_on own.hand.bound) (take (i + 1) before)
+  pub ends_more : (others others' : List DeckEnd) (other : DeckEnd) → others ≡ map (end_on own.hand.bound) (take i before) → others' ≡ others ++ other ∷ [] → other ≡ end_on (get_or now i x).bound (get_or now i x) → others' ≡ map (end_on own.hand.bound) (take (i + 1) before)
   ends_more others others' other were longer other_is =
       let f = end_on own.hand.bound in
       let more : map f (take (i + 1) before) ≡ map f (take i before) ++ f x ∷ [] =

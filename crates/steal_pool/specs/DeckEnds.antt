@@ -1,5 +1,5 @@
 -- What contracts see of a `Deck`: its worker's view of all decks.
-use Rattle.std.specs.Prelude.{◌≡◌, ℕ, ◌-◌, ◌<◌, List, [], ◌∷◌, length, replicate, Some, slice_get, slice_set, slice_index_or}
+use Rattle.std.specs.Prelude.{◌≡◌, ℕ, ◌<◌, List, [], ◌∷◌, length, replicate, Some, slice_get, slice_set, slice_index_or}
 use Rattle.steal_pool.specs.declared.law.Hand.{Hand}
 use Rattle.steal_pool.specs.Hand.{owner_of, guest_of, pushing, taking}
 use Rattle.steal_pool.specs.Stands.{Joins, Leaves, WasEmpty}
@@ -8,11 +8,10 @@ use Rattle.steal_pool.specs.Stands.{Joins, Leaves, WasEmpty}
 abbrev pub DeckId : Type 0
 DeckId = ℕ × ℕ
 
--- the worker's number, which is also the number of its own deck; how many pushes are left to it; the bound of all
--- numbers; and for each deck, by its number, its identity and what this worker's pass of it knows
+-- the worker's number, which is also the number of its own deck; the bound of all numbers; and for each deck, by its
+-- number, its identity and what this worker's pass of it knows
 pub record DeckEnds : Type 0 where
   pub number : ℕ
-  pub spare : ℕ
   pub bound : ℕ
   pub decks : List DeckId
   pub hands : List Hand
@@ -25,12 +24,11 @@ hand_at ends deck = slice_index_or ends.hands deck (guest_of ends.bound)
 abbrev pub with_hand : DeckEnds → ℕ → Hand → DeckEnds
 with_hand ends deck known = record ends { hands = slice_set ends.hands deck known }
 
--- in one step the number joined the worker's own deck at the back; one push fewer is left
+-- in one step the number joined the worker's own deck at the back, and the worker's pass of the deck records it
 abbrev pub Pushed : DeckEnds → DeckEnds → ℕ → Type 0
 Pushed old new number =
     let known = pushing (hand_at old old.number) (number ∷ []) in
-    (new ≡ record (with_hand old old.number known) { spare = old.spare - 1 })
-    × Joins (hand_at old old.number) (number ∷ []) known
+    (new ≡ with_hand old old.number known) × Joins (hand_at old old.number) (number ∷ []) known
 
 -- in one step the number was the first of this deck and left it, and the worker's pass of the deck records it; the
 -- number is below the bound
@@ -44,18 +42,17 @@ abbrev pub FoundEmpty : DeckEnds → DeckEnds → ℕ → Type 0
 FoundEmpty old new deck = (new ≡ old) × WasEmpty (hand_at old deck)
 
 -- the ends of the worker with this number, when the decks are new
-abbrev pub new_ends : ℕ → ℕ → List DeckId → ℕ → DeckEnds
-new_ends capacity bound decks number = record {
+abbrev pub new_ends : ℕ → List DeckId → ℕ → DeckEnds
+new_ends bound decks number = record {
   number = number;
-  spare = capacity;
   bound = bound;
   decks = decks;
   hands = slice_set (replicate (length decks) (guest_of bound)) number (owner_of bound (length decks));
 }
 
 -- The decks of this many workers, all new. All workers see the same decks, and every worker may take from every deck.
-pub record AreNew (workers capacity bound : ℕ) (all : List DeckEnds) : Type 0 where
+pub record AreNew (workers bound : ℕ) (all : List DeckEnds) : Type 0 where
   pub decks : List DeckId
   pub count : length decks ≡ workers
   pub many : length all ≡ workers
-  pub each : (number : ℕ) → number < workers → slice_get all number ≡ Some (new_ends capacity bound decks number)
+  pub each : (number : ℕ) → number < workers → slice_get all number ≡ Some (new_ends bound decks number)

@@ -1,12 +1,12 @@
 //! A worker's access to the decks: to its own as the owner, and to the others' as a thief.
-ghost use Rattle.std.specs.Prelude.{◌≢◌, ◌≡◌, ◌<◌, length, IfSome, IfNone, IfOk, OnOk};
-ghost use Rattle.steal_pool.specs.DeckEnds.{Pushed, Taken, FoundEmpty};
+ghost use Rattle.std.specs.Prelude.{◌≢◌, ◌≡◌, ◌<◌, ◌≤◌, length, IfSome, IfNone, IfOk, OnOk, OnErr};
+ghost use Rattle.steal_pool.specs.DeckEnds.{hand_at, Pushed, Taken, FoundEmpty};
 ghost use Rattle.steal_pool.specs.inner.Single.{ends_of, AgreeOnBound, IsAt};
 ghost use Rattle.steal_pool.specs.inner.Making.{met, end_on};
 ghost use Rattle.steal_pool.specs.Hand.{sharing};
 
 use crate::other::Other;
-use crate::own::Own;
+use crate::own::{FIRST_ROOM, Own};
 use std::marker::Model;
 use std::sync::Wait;
 use twe_base::Memory;
@@ -50,7 +50,7 @@ impl Deck {
     // Adds an end of a new deck after all others, and returns an end of this worker's own deck for the new worker.
     pub(crate) fn meet(&mut self, own: &mut Own) -> Result<Other, Memory>
         requires { own.old.hand.bound ≡ self.old.bound }
-        ensures own { (own.new.deck ≡ own.old.deck) × (own.new.spare ≡ own.old.spare) }
+        ensures own { own.new.deck ≡ own.old.deck }
         ensures shared { OnOk result (own.new.hand ≡ sharing own.old.hand) }
         ensures met { OnOk result (self.new ≡ met own.old.deck self.old.bound self.old) }
         ensures end { IfOk result (λ other. other ≡ end_on self.old.bound self.old) }
@@ -68,13 +68,6 @@ impl Deck {
         self.number
     }
 
-    /// The number of pushes that are left to this worker.
-    pub fn spare(&self) -> u32
-        ensures { result ≡ self.now.spare }
-    {
-        self.own.spare()
-    }
-
     /// The number of decks, including this worker's own.
     pub fn count(&self) -> usize
         ensures { result ≡ length self.now.hands }
@@ -82,14 +75,19 @@ impl Deck {
         self.others.len() + 1
     }
 
-    /// Pushes a number below the bound at the back of the worker's own deck. It uses one of the pushes that are left,
-    /// and takes no memory.
-    pub fn push(&mut self, number: u32)
+    /// Pushes a number below the bound at the back of the worker's own deck.
+    ///
+    /// The room of a number that was taken is used again. The deck takes memory for more room only if none is free: it
+    /// is full, or a thief has yet to leave the place of a number that it took. If there is no memory then, or if the
+    /// deck has come to the limits of the deque under it, to which no run comes, it returns `Memory`, and nothing has
+    /// changed. The first `FIRST_ROOM` pushes succeed.
+    pub fn push(&mut self, number: u32) -> Result<(), Memory>
         requires below { number < self.old.bound }
-        requires room { 0 < self.old.spare }
-        ensures { Pushed self.old self.new number }
+        ensures ok { OnOk result (Pushed self.old self.new number) }
+        ensures err { OnErr result (self.new ≡ self.old) }
+        ensures room { OnErr result (FIRST_ROOM ≤ length (hand_at self.old self.old.number).pushed) }
     {
-        self.own.push(number);
+        self.own.push(number)
     }
 
     /// Takes the number at the front of the worker's own deck. It takes no memory.

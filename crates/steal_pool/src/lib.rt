@@ -16,6 +16,7 @@ pub use deck::Deck;
 pub use decks::{Decks, make_decks};
 pub use law::Hand;
 pub use laws::lone_worker_takes_in_order;
+pub use own::FIRST_ROOM;
 
 #[cfg(test)]
 mod tests;

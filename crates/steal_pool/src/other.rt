@@ -24,9 +24,9 @@ pub struct Other {
 impl Model for Other {
     ghost use Rattle.std.specs.Prelude.{◌≡◌, true};
     ghost use Rattle.crossbeam_deque.specs.Handles.{stealer_deque, stealer_flavor, view as known_of, IsPassOf};
-    ghost use Rattle.steal_pool.specs.inner.Single.{OtherEnd};
+    ghost use Rattle.steal_pool.specs.inner.Single.{DeckEnd};
 
-    ghost Value = { OtherEnd };
+    ghost Value = { DeckEnd };
 
     ghost view = { λ other. record { deck = (stealer_deque other.stealer).0; hand = known_of other.pass } };
 

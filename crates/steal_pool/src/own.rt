@@ -1,5 +1,5 @@
 //! The owner's end of a deck: it pushes numbers at the back and takes them at the front.
-ghost use Rattle.std.specs.Prelude.{◌≡◌, ◌+◌, ◌-◌, ◌^◌, ◌<◌, ◌≤◌, [], ◌∷◌, IfOk, IfSome, IfNone, OnOk, OnErr};
+ghost use Rattle.std.specs.Prelude.{◌≡◌, ◌^◌, ◌<◌, ◌≤◌, [], ◌∷◌, length, IfOk, IfSome, IfNone, OnOk, OnErr};
 ghost use Rattle.crossbeam_deque.specs.Handles.{worker_view, worker_port, worker_index, SameWorker};
 ghost use Rattle.steal_pool.specs.Hand.{owner_of, guest_of, sharing};
 ghost use Rattle.steal_pool.specs.Stands.{Joins, Leaves, WasEmpty};
@@ -7,66 +7,59 @@ ghost use Rattle.steal_pool.specs.Stands.{Joins, Leaves, WasEmpty};
 use crate::law::{Bound, Bounding, Hand, Joined, Law, Left, Sharing};
 use crate::other::Other;
 use crossbeam_deque::Worker;
-use std::alloc::Global;
+use std::alloc::{AllocError, Global};
 use std::marker::{Brand, Model};
 use twe_base::Memory;
 
 type Owner = Worker<u32, Global, Hand, Law>;
 
-/// The owner's end of a deck, and the number of pushes that are left.
+/// How many numbers can be pushed to a deck before it may have to grow.
+pub const FIRST_ROOM: usize = 256;
+
+/// The owner's end of a deck.
 #[derive(Drop)]
 pub struct Own {
     worker: Owner,
-    spare: u32,
 }
 
 impl Model for Own {
-    ghost use Rattle.std.specs.Prelude.{◌≡◌, ◌+◌, ◌≤◌, true};
+    ghost use Rattle.std.specs.Prelude.{◌≡◌, ◌≤◌, true, length};
     ghost use Rattle.crossbeam_deque.specs.Handles.{worker_deque, worker_view, worker_port, worker_flavor, worker_index, worker_capacity};
-    ghost use Rattle.steal_pool.specs.inner.Single.{OwnEnd};
+    ghost use Rattle.steal_pool.specs.declared.own.TheConstants.{FIRST_ROOM};
+    ghost use Rattle.steal_pool.specs.inner.Single.{DeckEnd};
 
-    ghost Value = { OwnEnd };
+    ghost Value = { DeckEnd };
 
-    ghost view = { λ own. record { deck = (worker_deque own.worker).0; hand = worker_view own.worker; spare = own.spare } };
+    ghost view = { λ own. record { deck = (worker_deque own.worker).0; hand = worker_view own.worker } };
 
     ghost invariant = { λ own.
         (worker_flavor own.worker ≡ 0) × (worker_port own.worker ≡ 0) × ((worker_view own.worker).takes ≡ true)
-        × (worker_index own.worker + own.spare ≤ worker_capacity own.worker) };
+        × (FIRST_ROOM ≤ worker_capacity own.worker)
+        × (worker_index own.worker ≤ length (worker_view own.worker).pushed) };
 }
 
 impl Own {
-    /// An empty deck with room for `capacity` pushes of numbers below `bound`.
+    /// An empty deck for numbers below `bound`.
     #[tactic(auto, using(crate::proofs::CallLemmas::begins))]
-    pub fn open(alloc: Global, capacity: u32, bound: u32) -> Result<Self, Memory>
-        ensures { IfOk result (λ own. (own.hand ≡ owner_of bound 1) × (own.spare ≡ capacity)) }
+    pub fn open(alloc: Global, bound: u32) -> Result<Self, Memory>
+        ensures { IfOk result (λ own. own.hand ≡ owner_of bound 1) }
     {
-        let mut worker = Owner::fifo_as(alloc, capacity as usize)?;
+        let mut worker = Owner::fifo_as(alloc, FIRST_ROOM)?;
         set_bound::<Brand>(&mut worker, bound);
-        Ok(Own {
-            worker,
-            spare: capacity,
-        })
+        Ok(Own { worker })
     }
 
-    /// The number of pushes that are left.
-    pub fn spare(&self) -> u32
-        ensures { result ≡ self.now.spare }
-    {
-        self.spare
-    }
-
-    /// Pushes a number at the back.
-    pub fn push(&mut self, number: u32)
+    /// Pushes a number at the back. If there is no room for it and the deck cannot grow, the deck is unchanged.
+    pub fn push(&mut self, number: u32) -> Result<(), Memory>
         requires below { number < self.old.hand.bound }
-        requires room { 0 < self.old.spare }
         ensures deck { self.new.deck ≡ self.old.deck }
-        ensures spare { self.new.spare ≡ self.old.spare - 1 }
-        ensures joins { Joins self.old.hand (number ∷ []) self.new.hand }
+        ensures ok { OnOk result (Joins self.old.hand (number ∷ []) self.new.hand) }
+        ensures err { OnErr result (self.new.hand ≡ self.old.hand) }
+        ensures room { OnErr result (FIRST_ROOM ≤ length self.old.hand.pushed) }
     {
-        self.spare -= 1;
         match self.worker.push_as::<Joined>(number) {
-            Ok(()) => {}
-            Err(_) => unreachable!(),
+            Ok(()) => Ok(()),
+            Err(_refused) => Err(Memory::from(AllocError)),
         }
     }
 
@@ -74,7 +67,6 @@ impl Own {
     /// the pass knows nothing that rules out an empty deck.
     pub fn pop(&mut self) -> Option<u32>
         ensures deck { self.new.deck ≡ self.old.deck }
-        ensures spare { self.new.spare ≡ self.old.spare }
         ensures some { IfSome result (λ number. Leaves self.old.hand (number ∷ []) self.new.hand) }
         ensures none { IfNone result ((self.new.hand ≡ self.old.hand) × WasEmpty self.old.hand) }
     {
@@ -84,7 +76,7 @@ impl Own {
     /// A thief's end of this deck, for another worker. If memory runs out, the deck is unchanged.
     pub fn share(&mut self) -> Result<Other, Memory>
         ensures other { IfOk result (λ other. (other.deck ≡ self.old.deck) × (other.hand ≡ guest_of self.old.hand.bound)) }
-        ensures deck { (self.new.deck ≡ self.old.deck) × (self.new.spare ≡ self.old.spare) }
+        ensures deck { self.new.deck ≡ self.old.deck }
         ensures ok { OnOk result (self.new.hand ≡ sharing self.old.hand) }
         ensures err { OnErr result (self.new.hand ≡ self.old.hand) }
     {

@@ -1,4 +1,4 @@
-//! What no clause says: numbers move between threads, each once, and `make_decks` succeeds if there is memory.
+//! What no clause says: numbers move between threads, each once, and `make_decks` and `push` succeed if there is memory.
 ghost use Rattle.std.specs.Prelude.{◌≡◌, ◌<◌, All};
 
 use crate::{Deck, Decks, make_decks};
@@ -6,32 +6,45 @@ use std::alloc::Global;
 use std::sync::Wait;
 use std::test::Fail;
 use std::thread;
+use twe_base::Memory;
 
 // How many numbers each worker pushes.
 const EACH: u32 = 1000;
 
 #[test]
 fn one_worker_takes_in_order(rt: HostRuntime) -> Result<(), Fail> {
-    let mut decks = make_decks(rt.alloc(), 1, 3, 9)?;
+    let mut decks = make_decks(rt.alloc(), 1, 9)?;
     let Some(mut deck) = decks.pop() else {
         return Err("one deck")?;
     };
-    assert_eq!(rt; (deck.number(), deck.spare(), deck.count()), (0, 3, 1));
+    assert_eq!(rt; (deck.number(), deck.count()), (0, 1));
     assert_eq!(rt; (deck.pop(), steal_any(&rt, &mut deck)), (None, None));
-    push_spare(&mut deck, 7);
-    push_spare(&mut deck, 2);
-    push_spare(&mut deck, 5);
-    assert_eq!(rt;
-        (deck.pop(), deck.pop(), deck.spare()),
-        (Some(7), Some(2), 0)
-    );
+    push(&mut deck, 7)?;
+    push(&mut deck, 2)?;
+    push(&mut deck, 5)?;
+    assert_eq!(rt; (deck.pop(), deck.pop()), (Some(7), Some(2)));
     assert_eq!(rt; (steal_any(&rt, &mut deck), deck.pop()), (Some(5), None));
+    Ok(())
+}
+
+// 1,000 numbers lie in a deck that begins with room for 256.
+#[test]
+fn a_deck_grows(rt: HostRuntime) -> Result<(), Fail> {
+    let mut decks = make_decks(rt.alloc(), 1, 4 * EACH)?;
+    let Some(mut mover) = next_mover(rt.alloc(), &mut decks) else {
+        return Err("one deck")?;
+    };
+    mover.run(&rt);
+    assert_eq!(rt; mover.taken.len(), EACH as usize);
+    for (place, number) in mover.taken.iter().enumerate() {
+        assert_eq!(rt; *number as usize, place);
+    }
     Ok(())
 }
 
 #[test]
 fn two_threads_empty_four_decks(rt: HostRuntime) -> Result<(), Fail> {
-    let mut decks = make_decks(rt.alloc(), 4, EACH, 4 * EACH)?;
+    let mut decks = make_decks(rt.alloc(), 4, 4 * EACH)?;
     let mut movers = Vec::new(rt.alloc());
     for _ in 0..4 {
         if let Some(mover) = next_mover(rt.alloc(), &mut decks) {
@@ -76,7 +89,9 @@ impl Mover {
     fn run<R: Wait>(&mut self, rt: &R) {
         let first = self.deck.number().min(3) * EACH;
         for number in first..first + EACH {
-            push_spare(&mut self.deck, number);
+            if push(&mut self.deck, number).is_err() {
+                return;
+            }
         }
         for _ in rt.forever() {
             let Some(number) = steal_any(rt, &mut self.deck) else {
@@ -89,14 +104,12 @@ impl Mover {
     }
 }
 
-// Pushes a number if a push is left.
-fn push_spare(deck: &mut Deck, number: u32)
+// Pushes a number below the bound, which stays as it was.
+fn push(deck: &mut Deck, number: u32) -> Result<(), Memory>
     requires { number < deck.old.bound }
     ensures { deck.new.bound ≡ deck.old.bound }
 {
-    if deck.spare() > 0 {
-        deck.push(number);
-    }
+    deck.push(number)
 }
 
 // Steals from the first deck that is not empty, its own included.

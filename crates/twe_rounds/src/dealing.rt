@@ -8,9 +8,6 @@ use steal_pool::{Deck, Decks, make_decks};
 use twe_base::Memory;
 use twe_machine::{State, TaskStatus};
 
-/// How many pushes all decks together have room for beside the numbers that are dealt.
-const SPARE: u32 = 65_536;
-
 /// The workers of a round, and how many numbers they have to deal with.
 #[derive(Drop)]
 pub struct Team {
@@ -20,7 +17,7 @@ pub struct Team {
 
 /// Workers for a round that begins in this state and with this many entries. The tasks that are not done are dealt to their
 /// decks in turn, in the order of their numbers, which are below the bound. The task `first`, if there is one, is handed to the
-/// first worker, and lies on no deck.
+/// first worker, and lies on no deck. Nor does a task for which there is no memory.
 pub fn deal(
     alloc: Global,
     state: &State,
@@ -29,9 +26,7 @@ pub fn deal(
     workers: u32,
     first: Option<u32>,
 ) -> Result<Team, Memory> {
-    let spare = spare_pushes(bound, state.links.task_count(), workers);
-    let capacity = count_undone(state).saturating_add(spare);
-    let decks = make_decks(alloc, workers, capacity, bound)?;
+    let decks = make_decks(alloc, workers, bound)?;
     let mut team = Team {
         workers: workers_of(alloc, decks, bound, entries)?,
         pending: 0,
@@ -50,7 +45,7 @@ pub fn deal(
     Ok(team)
 }
 
-/// Deals a number to the worker whose turn it is.
+/// Deals a number to the worker whose turn it is, if there is room.
 fn deal_to(team: &mut Team, task: u32) {
     let count = team.workers.len() as u64;
     if count == 0 {
@@ -62,24 +57,6 @@ fn deal_to(team: &mut Team, task: u32) {
     {
         team.pending = team.pending.saturating_add(1);
     }
-}
-
-/// How many pushes a deck has room for beside the numbers that are dealt: one for each task that may still be made, if there are
-/// not too many.
-fn spare_pushes(bound: u32, made: u32, workers: u32) -> u32 {
-    let share = SPARE.checked_div(workers).unwrap_or(SPARE);
-    bound.saturating_sub(made).min(share)
-}
-
-/// How many tasks are not done.
-fn count_undone(state: &State) -> u32 {
-    let mut count = 0u32;
-    for task in 0..state.links.task_count() {
-        if is_undone(state, task) {
-            count = count.saturating_add(1);
-        }
-    }
-    count
 }
 
 /// Whether there is such a task, and it is not done.

@@ -23,14 +23,10 @@ impl OwnDeck {
         OwnDeck { deck, bound }
     }
 
-    /// Pushes a number to the worker's own deck, and returns whether it did. It does not if no push is left or the number
-    /// is not below the bound.
+    /// Pushes a number to the worker's own deck, and returns whether it did. It does not if the number is not below the
+    /// bound, or if there is no memory for it.
     pub fn push(&mut self, number: u32) -> bool {
-        let fits = number < self.bound && self.deck.spare() > 0;
-        if fits {
-            self.deck.push(number);
-        }
-        fits
+        number < self.bound && self.deck.push(number).is_ok()
     }
 
     /// Takes a number: from the worker's own deck, or else from the first of the others that has one.

@@ -208,7 +208,7 @@ impl Worker {
     }
 
     /// Passes the gate and runs a segment of the task, if it is still legal then. A task that the segment makes is pushed,
-    /// if a push is left.
+    /// if there is room.
     fn segment<A: RoundAccess, G: Gate>(
         &mut self,
         access: &mut A,

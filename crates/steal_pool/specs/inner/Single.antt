@@ -4,29 +4,22 @@ use Rattle.std.specs.List.{insert}
 use Rattle.steal_pool.specs.declared.law.Hand.{Hand}
 use Rattle.steal_pool.specs.DeckEnds.{DeckId, DeckEnds}
 
--- the end of the deck's owner, and how many pushes are left
-pub record OwnEnd : Type 0 where
-  pub deck : DeckId
-  pub hand : Hand
-  pub spare : ℕ
-
--- the end of a thief
-pub record OtherEnd : Type 0 where
+-- the end of a deck's owner, or of a thief: the identity of the deck, and what the pass that uses it knows
+pub record DeckEnd : Type 0 where
   pub deck : DeckId
   pub hand : Hand
 
 -- the worker's own end is inserted at its number, among its ends of the others' decks
-abbrev pub ends_of : ℕ → OwnEnd → List OtherEnd → DeckEnds
+abbrev pub ends_of : ℕ → DeckEnd → List DeckEnd → DeckEnds
 ends_of number own others = record {
   number = number;
-  spare = own.spare;
   bound = own.hand.bound;
   decks = insert (map (λ other. other.deck) others) number own.deck;
   hands = insert (map (λ other. other.hand) others) number own.hand;
 }
 
 -- the worker's number is the number of a deck, and all its passes know the same bound
-abbrev pub AgreeOnBound : ℕ → OwnEnd → List OtherEnd → Type 0
+abbrev pub AgreeOnBound : ℕ → DeckEnd → List DeckEnd → Type 0
 AgreeOnBound number own others = (number ≤ length others) × All (λ other. other.hand.bound ≡ own.hand.bound) others
 
 -- the end of the deck with this number has this index among the ends without the worker's own

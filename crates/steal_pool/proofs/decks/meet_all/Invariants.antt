@@ -9,6 +9,6 @@ invariant-loop-deck l =
     record {
       decks : l.decks ≡ map (met before.deck before.hand.bound) (take l.deck-index l.initial.decks) ++ drop l.deck-index l.initial.decks;
       others : l.others.items ≡ map (end_on before.hand.bound) (take l.deck-index l.initial.decks);
-      same : (l.own.deck ≡ before.deck) × (l.own.spare ≡ before.spare);
+      same : l.own.deck ≡ before.deck;
       shared : l.own.hand ≡ record before.hand { takers = before.hand.takers + l.deck-index };
     }

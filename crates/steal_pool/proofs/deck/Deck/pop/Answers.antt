@@ -6,4 +6,4 @@ use Rattle.steal_pool.proofs.deck.Deck.pop.Goals as goal
 pub returns-clause-some : goal.returns-clause-some
 returns-clause-some c =
     let self = c.self.inside in
-    pops self.number self.own c.pop.new.self self.others.items c.self.invariant _ _ c.pop.result c.self.view_is (ap (λ (e : DeckEnds). e.number) (sym c.self.view_is)) c.pop.ensures.deck c.pop.ensures.spare c.pop.ensures.some
+    pops self.number self.own c.pop.new.self self.others.items c.self.invariant _ _ c.pop.result c.self.view_is (ap (λ (e : DeckEnds). e.number) (sym c.self.view_is)) c.pop.ensures.deck c.pop.ensures.some

@@ -1,7 +1,8 @@
+use Rattle.std.proofs.lemmas.Result.{on_ok_weaker}
 use Rattle.steal_pool.proofs.EndsLemmas.{pushes_own}
 use Rattle.steal_pool.proofs.deck.Deck.push.Goals as goal
 
-pub returns : goal.returns
-returns c =
+pub returns-clause-ok : goal.returns-clause-ok
+returns-clause-ok c =
     let self = c.self.inside in
-    pushes_own self.number self.own c.push.new.self self.others.items c.self.invariant _ _ c.self.view_is c.push.ensures.deck c.push.ensures.spare c.push.ensures.joins
+    on_ok_weaker c.push.result (pushes_own self.number self.own c.push.new.self self.others.items c.self.invariant _ _ c.self.view_is c.push.ensures.deck) c.push.ensures.ok

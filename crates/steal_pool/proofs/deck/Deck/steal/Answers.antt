@@ -5,7 +5,7 @@ use Rattle.steal_pool.proofs.deck.Deck.steal.Goals as goal
 pub returns-then-from-self-clause-some : goal.returns-then-from-self-clause-some
 returns-then-from-self-clause-some g c =
     let self = c.self.inside in
-    pops self.number self.own c.pop.new.self self.others.items c.self.invariant _ _ c.pop.result c.self.view_is c.if-from-self.true c.pop.ensures.deck c.pop.ensures.spare c.pop.ensures.some
+    pops self.number self.own c.pop.new.self self.others.items c.self.invariant _ _ c.pop.result c.self.view_is c.if-from-self.true c.pop.ensures.deck c.pop.ensures.some
 
 pub index_mut-requires : goal.index_mut-requires
 index_mut-requires g c =
