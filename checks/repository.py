@@ -1,5 +1,6 @@
 """What the scripts of checks/, bench/ and stress/ share: where things stand in the repository, its crates and programs, the rules of
 the language, its cases, and how a self-test says what it showed."""
+import functools
 import pathlib
 import re
 import subprocess
@@ -8,14 +9,15 @@ TOP = pathlib.Path(__file__).resolve().parent.parent
 CRATES, TESTS = TOP / 'crates', TOP / 'tests'
 # The line between a text and a journal, and between the programs of a batch.
 MARK = b'%%\n'
-# The names of the rules and faults, and the statuses, as docs/LANGUAGE.md has them.
+# The names of the rules and faults, as docs/LANGUAGE.md has them, and the statuses, as man/twe.1 has them.
 RULES = [f'S{n}' for n in range(1, 7)] + [f'N{n}' for n in range(1, 10)] + [f'E{n}' for n in range(1, 9)]
 FAULTS = ['DivZero', 'Index', 'Fuel', 'Depth', 'TaskLimit']
 STATUSES = range(0, 12)
-# The crate of `twe`. Every other program has the name of its crate.
-MAIN = 'twe_cli'
-# The words of a case that has none.
-WORDS = {'twe': 'run\n', 'twe_batch': 'run\n', 'twe_opt': '2\n'}
+# A line of programs.txt: a program, its crate, the words of a case that has none, and its usage; and the line above it with its sentence.
+PROGRAM = re.compile(r'^# ([a-z_]+): (.*)\n\1 ([a-z0-9_]+)([^:\n]*):(.*)$', re.M)
+# Lines of crates.txt: a crate, the heading of a room, and what stands above a crate.
+CRATE_LINE = re.compile(r'^([a-z]\w*)([^:\n#]*):.*$', re.M)
+ROOM_LINE, COMMENT_LINE = re.compile(r'^# ([A-Z][a-z]+): (.*)$'), re.compile(r'^# ([a-z]\w*): (.*)$')
 # The beginning of an import, or a declaration of a module, in src/ and specs/.
 IMPORT = re.compile(r'(?:pub(?:\(crate\))? )?(?:(?:ghost )?use\b|mod \w+;?$)')
 
@@ -26,26 +28,59 @@ def crates_in(top=TOP):
     return {head.split()[0]: uses.split() for head, _, uses in lines}
 
 
+def rooms_of(top):
+    """The rooms of crates.txt: the name and what it is for, and its crates, each with what it is for, or None."""
+    rooms, comment = [], None
+    for line in (top / 'crates.txt').read_text().splitlines():
+        if found := ROOM_LINE.match(line):
+            rooms.append((found[1], found[2], []))
+        elif found := CRATE_LINE.match(line):
+            rooms = rooms or [('', '', [])]
+            rooms[-1][2].append((found[1], comment[2] if comment and comment[1] == found[1] else None))
+        comment = COMMENT_LINE.match(line)
+    return rooms
+
+
+class Program:
+    """What programs.txt says of a program."""
+
+    def __init__(self, name, sentence, crate, words, usage):
+        self.name, self.sentence, self.crate, self.words, self.usage = name, sentence, crate, words.split(), usage
+
+    def usage_line(self):
+        return f'usage: {self.name}{self.usage}\n'
+
+
+@functools.lru_cache
 def programs():
-    """The crate of each program, by the name of the program."""
-    crates = [path.parent.parent.name for path in CRATES.glob('*/src/main.rt')]
-    return dict(sorted(('twe' if crate == MAIN else crate, crate) for crate in crates))
+    """The programs by their names, in the order of programs.txt."""
+    return {found[0]: Program(*found) for found in PROGRAM.findall((TOP / 'programs.txt').read_text())}
+
+
+def words_if_none(program):
+    """The words of a case that has none, one a line."""
+    return ''.join(f'{word}\n' for word in programs()[program].words)
 
 
 def binary(program):
     """The path of a built program."""
-    crate = programs()[program]
+    crate = programs()[program].crate
     return CRATES / crate / 'out' / crate
 
 
 def build(program):
     """Proves and builds a program, unless it is there. Returns the status."""
-    return subprocess.run([TOP / 'bin/build', programs()[program]], stdin=subprocess.DEVNULL).returncode
+    return subprocess.run([TOP / 'bin/build', programs()[program].crate], stdin=subprocess.DEVNULL).returncode
 
 
 def documents(top=TOP):
     """The paths of the documents."""
     return [*sorted(top.glob('*.md')), *sorted((top / 'docs').glob('*.md'))]
+
+
+def manuals(top=TOP):
+    """The paths of the manual pages."""
+    return sorted((top / 'man').glob('*.1'))
 
 
 def lines_that_count(text):
@@ -92,7 +127,7 @@ def cases_in(folder, words=''):
 def cases_of(program):
     """The cases of a program: those of its folder of tests/, and the examples for `twe`."""
     folders = [TESTS / program] + [TOP / 'examples'] * (program == 'twe')
-    return [case for folder in folders for case in cases_in(folder, WORDS.get(program, ''))]
+    return [case for folder in folders for case in cases_in(folder, words_if_none(program))]
 
 
 def status_of(script, shown):
