@@ -76,12 +76,43 @@ _twe_explain() {
   done
 }
 
+# A command, a file, and what the command takes.
+_tw() {
+  local current=${COMP_WORDS[COMP_CWORD]} words='' word given
+  COMPREPLY=()
+  if ((COMP_CWORD == 1)) || [[ $COMP_CWORD == 2 && ${COMP_WORDS[1]} == help ]]; then
+    words='check run why advise draw annotate watch help'
+  elif ((COMP_CWORD == 2)); then
+    mapfile -t COMPREPLY < <(compgen -f -- "$current")
+    return
+  else
+    case ${COMP_WORDS[COMP_CWORD - 1]} in
+      --workers | --fuel | --tasks) return ;; # a number stands here
+    esac
+    case ${COMP_WORDS[1]} in
+      run) words=' --workers --fuel --tasks --journal ' ;;
+      why) words=' --all --run --fuel --tasks ' ;;
+      advise) words=' --workers --fuel --tasks ' ;;
+      draw) words=' order trace --workers --fuel --tasks ' ;;
+      annotate) ((COMP_CWORD > 3)) || words='write compare matrix' ;;
+    esac
+    # Each may be given once.
+    for given in "${COMP_WORDS[@]:3:COMP_CWORD-3}"; do
+      words=${words/ $given / }
+    done
+  fi
+  for word in $words; do
+    [[ $word != "$current"* ]] || COMPREPLY+=("$word")
+  done
+}
+
 # A number, or no words at all.
 _twe_other() {
   COMPREPLY=()
 }
 
 complete -F _twe twe
+complete -o filenames -F _tw tw
 complete -F _twe_batch twe_batch
 complete -F _twe_advise twe_advise
 complete -F _twe_draw twe_draw

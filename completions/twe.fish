@@ -1,6 +1,22 @@
 # Completion of the words of `twe` and its companions for fish. Copy this file to ~/.config/fish/completions/, or let bin/install put it
 # where fish looks for it, by the name of each program.
 
+complete -c tw -n __fish_use_subcommand -f
+complete -c tw -n __fish_use_subcommand -a check -d 'whether the text in a file is accepted'
+complete -c tw -n __fish_use_subcommand -a run -d 'run the text in a file'
+complete -c tw -n __fish_use_subcommand -a why -d 'why it is refused, or its run ends early'
+complete -c tw -n __fish_use_subcommand -a advise -d 'what its run could gain from more workers'
+complete -c tw -n __fish_use_subcommand -a draw -d 'a picture of its run, beside the file'
+complete -c tw -n __fish_use_subcommand -a annotate -d 'the text with its least summaries'
+complete -c tw -n __fish_use_subcommand -a watch -d 'check it after each save'
+complete -c tw -n __fish_use_subcommand -a help -d 'what each command does'
+complete -c tw -n '__fish_seen_subcommand_from run advise draw; and not __fish_contains_opt workers' -l workers -x -d 'how many workers, 0 to 64'
+complete -c tw -n '__fish_seen_subcommand_from run why advise draw; and not __fish_contains_opt fuel' -l fuel -x -d 'how much fuel each task has'
+complete -c tw -n '__fish_seen_subcommand_from run why advise draw; and not __fish_contains_opt tasks' -l tasks -x -d 'how many tasks may be made'
+complete -c tw -n '__fish_seen_subcommand_from run; and not __fish_contains_opt journal' -l journal -d 'write the journal too'
+complete -c tw -n '__fish_seen_subcommand_from why; and not __fish_contains_opt all' -l all -d 'each rule on effects that fails'
+complete -c tw -n '__fish_seen_subcommand_from why; and not __fish_contains_opt run' -l run -d 'run it, and say why the run ends early'
+
 complete -c twe -f
 complete -c twe -n __fish_use_subcommand -a check -d 'accept a text, or report its one refusal'
 complete -c twe -n __fish_use_subcommand -a run -d 'run an accepted text'

@@ -17,20 +17,20 @@ use Rattle.effect_check.specs.Acts.{acts_in_all, filled_summary, is_deterministi
 use Rattle.effect_check.specs.FailsEffect.{made_later, not_deterministic, waited}
 use Rattle.effect_check.specs.Standing.{elements_of}
 use Rattle.effect_check.proofs.Members.{IsIn, in-contains}
-use Rattle.seg_exec.specs.declared.frame.Frame.{Frame}
-use Rattle.seg_exec.specs.declared.frame.Next.TheVariants.{Get}
-use Rattle.seg_exec.specs.declared.stop.Stop.TheVariants as ends
-use Rattle.seg_exec.specs.Giving.{given}
-use Rattle.seg_exec.specs.Meaning.{body_of}
+use Rattle.seg_meaning.specs.declared.frame.Frame.{Frame}
+use Rattle.seg_meaning.specs.declared.frame.Next.TheVariants.{Get}
+use Rattle.seg_meaning.specs.declared.stop.Stop.TheVariants as ends
+use Rattle.seg_meaning.specs.Giving.{given}
+use Rattle.seg_meaning.specs.Meaning.{body_of}
 use Rattle.isolation_laws.specs.soundness.KeepsEffects.{KeepsEffects}
 use Rattle.isolation_laws.proofs.soundness.Sound.{got-in}
-use Rattle.twe_machine.specs.segment_laws.Left.{left_of}
-use Rattle.twe_machine.proofs.segment_laws.Following.{gets_follow, makes_follow}
-use Rattle.twe_machine.specs.declared.state.State.{State}
-use Rattle.twe_machine.specs.declared.state.TaskRow.{TaskRow}
-use Rattle.twe_machine.specs.Moves.{awaited_value}
-use Rattle.twe_machine.specs.Rows.{IsRow, row_awaited}
-use Rattle.twe_machine.proofs.standing.Standing.{Stands}
+use Rattle.machine_state.specs.segment_laws.Left.{left_of}
+use Rattle.machine_state.proofs.segment_laws.Following.{gets_follow, makes_follow}
+use Rattle.machine_state.specs.declared.state.State.{State}
+use Rattle.machine_state.specs.declared.state.TaskRow.{TaskRow}
+use Rattle.machine_state.specs.Moves.{awaited_value}
+use Rattle.machine_state.specs.Rows.{IsRow, row_awaited}
+use Rattle.machine_state.proofs.standing.Standing.{Stands}
 use Rattle.isolation_laws.proofs.frames.AfterSegment.{after, reached_at}
 use Rattle.isolation_laws.proofs.frames.EndedBody.{some_at_get, some_at_make}
 use Rattle.isolation_laws.proofs.journals.Invariant.{Kept, taker}

@@ -9,13 +9,13 @@ use Rattle.wait_graph.specs.Chain.{Chain, none, more}
 use Rattle.twe_program.specs.Program.{Program}
 use Rattle.twe_program.specs.WellFormed.{IsWellFormed}
 use Rattle.isolation_laws.specs.soundness.KeepsEffects.{KeepsEffects}
-use Rattle.twe_machine.specs.declared.state.State.{State}
-use Rattle.twe_machine.specs.declared.state.TaskRow.{TaskRow}
-use Rattle.twe_machine.specs.declared.state.TaskStatus.TheVariants.{Done}
-use Rattle.twe_machine.specs.Rows.{IsRow}
-use Rattle.twe_machine.specs.Runs.{Legal, state_after}
-use Rattle.seq_elide.specs.declared.progress.Progress.{Progress}
-use Rattle.seq_elide.specs.Elision as elision
+use Rattle.machine_state.specs.declared.state.State.{State}
+use Rattle.machine_state.specs.declared.state.TaskRow.{TaskRow}
+use Rattle.machine_state.specs.declared.state.TaskStatus.TheVariants.{Done}
+use Rattle.machine_state.specs.Rows.{IsRow}
+use Rattle.machine_state.specs.Runs.{Legal, state_after}
+use Rattle.determinism_laws.specs.declared.elision.progress.Progress.{Progress}
+use Rattle.determinism_laws.specs.elision.Elision as elision
 use Rattle.determinism_laws.specs.Deterministic.{IsDeterministic}
 use Rattle.determinism_laws.specs.Orders.{EachStandsOnce, SegmentAccesses}
 use Rattle.determinism_laws.specs.Ranks.{BelowTask, HasParent}

@@ -18,43 +18,43 @@ use Rattle.wait_graph.specs.Link.{link_of}
 use Rattle.wait_graph.specs.Waiting.{WaitsFor}
 use Rattle.twe_program.specs.Program.{Program}
 use Rattle.twe_program.specs.WellFormed.{IsWellFormed}
-use Rattle.seg_exec.specs.declared.frame.Frame.{Frame}
-use Rattle.seg_exec.specs.declared.frame.Next.{Next}
-use Rattle.seg_exec.specs.declared.frame.Next.TheVariants.{Go, Get, Join, Closing, Ended}
-use Rattle.seg_exec.specs.declared.stop.Stop.{Stop}
-use Rattle.seg_exec.specs.declared.stop.Stop.TheVariants as stops
-use Rattle.seg_exec.specs.Access.{value_in}
-use Rattle.seg_exec.specs.Entry.{entry_frame}
-use Rattle.seg_exec.specs.Giving.{given, given_by}
-use Rattle.seg_exec.specs.Segment.{Stopped}
+use Rattle.seg_meaning.specs.declared.frame.Frame.{Frame}
+use Rattle.seg_meaning.specs.declared.frame.Next.{Next}
+use Rattle.seg_meaning.specs.declared.frame.Next.TheVariants.{Go, Get, Join, Closing, Ended}
+use Rattle.seg_meaning.specs.declared.stop.Stop.{Stop}
+use Rattle.seg_meaning.specs.declared.stop.Stop.TheVariants as stops
+use Rattle.seg_meaning.specs.Access.{value_in}
+use Rattle.seg_meaning.specs.Entry.{entry_frame}
+use Rattle.seg_meaning.specs.Giving.{given, given_by}
+use Rattle.seg_meaning.specs.Segment.{Stopped}
 use Rattle.isolation_laws.specs.soundness.KeepsEffects.{KeepsEffects}
 use Rattle.isolation_laws.proofs.journals.Journals.{reached_kept}
 use Rattle.isolation_laws.proofs.rows.LinksOfRows.{link_there, spawned_row}
-use Rattle.twe_machine.specs.segment_laws.Keeps.{NextAfter}
-use Rattle.twe_machine.proofs.segment_laws.Following.{makes_follow}
-use Rattle.twe_machine.proofs.segment_laws.SegmentKept.{segment_keeps}
-use Rattle.twe_machine.specs.declared.state.FirstFault.{FirstFault}
-use Rattle.twe_machine.specs.declared.state.State.{State}
-use Rattle.twe_machine.specs.declared.state.TaskRow.{TaskRow}
-use Rattle.twe_machine.specs.declared.state.TaskStatus.TheVariants.{Enabled, Done}
-use Rattle.twe_machine.specs.Changes.{ChangesAsSegment, LeavesAlone, TakesJoin, asked_by, fault_after, made_by}
-use Rattle.twe_machine.specs.Legal.{MayMove}
-use Rattle.twe_machine.specs.Moves.{awaited_value, done_row, frame_without_prints, going_row, joined_child, joined_row, making_frame, move_result, new_row, ran, ready_frame, state_after_asking, state_after_fault, state_after_join, state_after_make, stop_result, stopped_frame, value_of}
-use Rattle.twe_machine.specs.Rows.{IsRow, row_awaited, is_done_status}
-use Rattle.twe_machine.specs.Runs.{IsReached, entry_of}
-use Rattle.twe_machine.proofs.standing.Halfway.{halfway}
-use Rattle.twe_machine.proofs.weight.JoinedWeight.{asked_joined, length_joined}
-use Rattle.twe_machine.proofs.standing.Later.{Later, later_then}
-use Rattle.twe_machine.proofs.standing.LaterStates.{taken_later}
-use Rattle.twe_machine.proofs.tasks.LeftAlone.{moves_leave_alone}
-use Rattle.twe_machine.proofs.tasks.OtherRows.{row_after}
-use Rattle.twe_machine.proofs.lists.Places.{below_there, got_one, put_before, put_last, set_same}
-use Rattle.twe_machine.proofs.standing.ReachedStands.{linked_of, reached_stands}
-use Rattle.twe_machine.proofs.replays.Replayed.{run_more}
-use Rattle.twe_machine.proofs.standing.Standing.{Stands}
-use Rattle.seq_elide.specs.declared.progress.Progress.{Progress}
-use Rattle.seq_elide.specs.Elision.{Ending, ends, fails, strays, goes_on, after_stop, first_frame, is_child, run_within, then_go_on, with_task, with_value}
-use Rattle.seq_elide.proofs.Within.{one_more}
+use Rattle.machine_state.specs.segment_laws.Keeps.{NextAfter}
+use Rattle.machine_state.proofs.segment_laws.Following.{makes_follow}
+use Rattle.machine_state.proofs.segment_laws.SegmentKept.{segment_keeps}
+use Rattle.machine_state.specs.declared.state.FirstFault.{FirstFault}
+use Rattle.machine_state.specs.declared.state.State.{State}
+use Rattle.machine_state.specs.declared.state.TaskRow.{TaskRow}
+use Rattle.machine_state.specs.declared.state.TaskStatus.TheVariants.{Enabled, Done}
+use Rattle.machine_state.specs.Changes.{ChangesAsSegment, LeavesAlone, TakesJoin, asked_by, fault_after, made_by}
+use Rattle.machine_state.specs.Legal.{MayMove}
+use Rattle.machine_state.specs.Moves.{awaited_value, done_row, frame_without_prints, going_row, joined_child, joined_row, making_frame, move_result, new_row, ran, ready_frame, state_after_asking, state_after_fault, state_after_join, state_after_make, stop_result, stopped_frame, value_of}
+use Rattle.machine_state.specs.Rows.{IsRow, row_awaited, is_done_status}
+use Rattle.machine_state.specs.Runs.{IsReached, entry_of}
+use Rattle.machine_state.proofs.standing.Halfway.{halfway}
+use Rattle.machine_state.proofs.weight.JoinedWeight.{asked_joined, length_joined}
+use Rattle.machine_state.proofs.standing.Later.{Later, later_then}
+use Rattle.machine_state.proofs.standing.LaterStates.{taken_later}
+use Rattle.machine_state.proofs.tasks.LeftAlone.{moves_leave_alone}
+use Rattle.machine_state.proofs.tasks.OtherRows.{row_after}
+use Rattle.machine_state.proofs.lists.Places.{below_there, got_one, put_before, put_last, set_same}
+use Rattle.machine_state.proofs.standing.ReachedStands.{linked_of, reached_stands}
+use Rattle.machine_state.proofs.replays.Replayed.{run_more}
+use Rattle.machine_state.proofs.standing.Standing.{Stands}
+use Rattle.determinism_laws.specs.declared.elision.progress.Progress.{Progress}
+use Rattle.determinism_laws.specs.elision.Elision.{Ending, ends, fails, strays, goes_on, after_stop, first_frame, is_child, run_within, then_go_on, with_task, with_value}
+use Rattle.determinism_laws.proofs.elision.Within.{one_more}
 use Rattle.determinism_laws.specs.Deterministic.{IsDeterministic}
 use Rattle.determinism_laws.proofs.BodyRules.{makes_deterministic}
 use Rattle.determinism_laws.proofs.Forks.{awaited_row, same_flag}

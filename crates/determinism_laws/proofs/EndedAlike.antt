@@ -5,14 +5,14 @@ use Rattle.seg_journal.specs.declared.journal.Entry.{Entry}
 use Rattle.twe_program.specs.Program.{Program}
 use Rattle.twe_program.specs.WellFormed.{IsWellFormed}
 use Rattle.isolation_laws.specs.soundness.KeepsEffects.{KeepsEffects}
-use Rattle.twe_machine.specs.declared.state.FirstFault.{FirstFault}
-use Rattle.twe_machine.specs.declared.state.State.{State}
-use Rattle.twe_machine.specs.LowestFirst.{IsOver}
-use Rattle.twe_machine.specs.Moves.{initial_values, move_result, start_of}
-use Rattle.twe_machine.specs.Runs.{AllTasksDone, IsReached, Legal, LegalFrom, replayed, state_after}
-use Rattle.seq_elide.specs.Elision.{Ending, ends, fails, goes_on, strays, elided, frame_at_start, most_segments, progress_at_start}
-use Rattle.seq_elide.specs.declared.progress.Progress.{Progress}
-use Rattle.seq_elide.proofs.Within.{most_is_enough, over_is, run_ends}
+use Rattle.machine_state.specs.declared.state.FirstFault.{FirstFault}
+use Rattle.machine_state.specs.declared.state.State.{State}
+use Rattle.machine_state.specs.LowestFirst.{IsOver}
+use Rattle.machine_state.specs.Moves.{initial_values, move_result, start_of}
+use Rattle.machine_state.specs.Runs.{AllTasksDone, IsReached, Legal, LegalFrom, replayed, state_after}
+use Rattle.determinism_laws.specs.elision.Elision.{Ending, ends, fails, goes_on, strays, elided, frame_at_start, most_segments, progress_at_start}
+use Rattle.determinism_laws.specs.declared.elision.progress.Progress.{Progress}
+use Rattle.determinism_laws.proofs.elision.Within.{most_is_enough, over_is, run_ends}
 use Rattle.determinism_laws.specs.results.Main.{IsResultOfMain, MainIsDeterministic}
 use Rattle.determinism_laws.proofs.results.MainResult.{main_has_its_result}
 use Rattle.determinism_laws.specs.Endings.{CanFinish, HasEndedAs, HaveEndedAlike, SomeRunFinishes}

@@ -9,16 +9,16 @@ use Rattle.seg_journal.specs.declared.moves.Move.{Move}
 use Rattle.twe_program.specs.Program.{Program}
 use Rattle.twe_program.specs.WellFormed.{IsWellFormed}
 use Rattle.isolation_laws.specs.soundness.KeepsEffects.{KeepsEffects}
-use Rattle.twe_machine.specs.declared.ending.Outcome.TheVariants.{Unfinished}
-use Rattle.twe_machine.specs.declared.state.FirstFault.{FirstFault}
-use Rattle.twe_machine.specs.declared.state.State.{State}
-use Rattle.twe_machine.specs.Legal.{MayMove}
-use Rattle.twe_machine.specs.LowestFirst.{IsOver}
-use Rattle.twe_machine.specs.Moves.{initial_values}
-use Rattle.twe_machine.specs.Runs.{AllTasksDone, IsReached, Legal, state_after}
-use Rattle.twe_machine.proofs.tasks.Movers.{mover_there, mover_undone}
-use Rattle.twe_machine.proofs.lists.Places.{below_there}
-use Rattle.seq_elide.specs.Elision.{elided, ends, fails}
+use Rattle.machine_state.specs.declared.ending.Outcome.TheVariants.{Unfinished}
+use Rattle.machine_state.specs.declared.state.FirstFault.{FirstFault}
+use Rattle.machine_state.specs.declared.state.State.{State}
+use Rattle.machine_state.specs.Legal.{MayMove}
+use Rattle.machine_state.specs.LowestFirst.{IsOver}
+use Rattle.machine_state.specs.Moves.{initial_values}
+use Rattle.machine_state.specs.Runs.{AllTasksDone, IsReached, Legal, state_after}
+use Rattle.machine_state.proofs.tasks.Movers.{mover_there, mover_undone}
+use Rattle.machine_state.proofs.lists.Places.{below_there}
+use Rattle.determinism_laws.specs.elision.Elision.{elided, ends, fails}
 use Rattle.determinism_laws.specs.results.Main.{HaveSameResult, MainIsDeterministic}
 use Rattle.determinism_laws.proofs.results.MainResult.{main_has_its_result, mains_have_one_result}
 use Rattle.determinism_laws.proofs.NeverStuck.{all_done_or_moves}

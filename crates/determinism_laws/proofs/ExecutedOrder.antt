@@ -12,12 +12,12 @@ use Rattle.twe_base.specs.Limits.{Bounds}
 use Rattle.twe_program.specs.Program.{Program}
 use Rattle.twe_program.specs.WellFormed.{IsWellFormed}
 use Rattle.isolation_laws.specs.soundness.KeepsEffects.{KeepsEffects}
-use Rattle.twe_machine.specs.declared.state.TaskRow.{TaskRow}
-use Rattle.twe_machine.specs.declared.state.TaskStatus.TheVariants.{Done, Enabled}
-use Rattle.twe_machine.specs.Changes.{next_segment}
-use Rattle.twe_machine.specs.Rows.{IsRow}
-use Rattle.twe_machine.specs.Runs.{Legal}
-use Rattle.twe_machine.proofs.lists.Places.{got_one}
+use Rattle.machine_state.specs.declared.state.TaskRow.{TaskRow}
+use Rattle.machine_state.specs.declared.state.TaskStatus.TheVariants.{Done, Enabled}
+use Rattle.machine_state.specs.Changes.{next_segment}
+use Rattle.machine_state.specs.Rows.{IsRow}
+use Rattle.machine_state.specs.Runs.{Legal}
+use Rattle.machine_state.proofs.lists.Places.{got_one}
 use Rattle.determinism_laws.specs.Execution.{Execution, ExecutionsAreInRankOrder, IsNextSegment, ends, joins, spawns}
 use Rattle.determinism_laws.specs.Orders.{EachStandsOnce, PrecedesIn, SegmentAccesses}
 use Rattle.determinism_laws.specs.Ranks.{ComesBefore, HasRank, IsBelow}

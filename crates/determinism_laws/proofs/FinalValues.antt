@@ -9,21 +9,21 @@ use Rattle.seg_journal.specs.declared.moves.Kind.TheVariants.{Run}
 use Rattle.wait_graph.specs.Link.{link_of}
 use Rattle.twe_program.specs.Program.{Program}
 use Rattle.twe_program.specs.WellFormed.{IsWellFormed}
-use Rattle.seg_exec.specs.declared.frame.Frame.{Frame}
-use Rattle.seg_exec.specs.declared.stop.Stop.{Stop}
-use Rattle.seg_exec.specs.declared.stop.Stop.TheVariants as stops
+use Rattle.seg_meaning.specs.declared.frame.Frame.{Frame}
+use Rattle.seg_meaning.specs.declared.stop.Stop.{Stop}
+use Rattle.seg_meaning.specs.declared.stop.Stop.TheVariants as stops
 use Rattle.isolation_laws.specs.soundness.KeepsEffects.{KeepsEffects}
-use Rattle.twe_machine.specs.declared.state.State.{State}
-use Rattle.twe_machine.specs.declared.state.TaskRow.{TaskRow}
-use Rattle.twe_machine.specs.declared.state.TaskStatus.TheVariants.{Done}
-use Rattle.twe_machine.specs.Changes.{IsDoneWith}
-use Rattle.twe_machine.specs.Legal.{MayTake}
-use Rattle.twe_machine.specs.Moves.{done_row, joined_child, ran, result_by_kind, state_after_join, stop_result}
-use Rattle.twe_machine.specs.Rows.{IsRow}
-use Rattle.twe_machine.specs.Runs.{Legal, state_after}
-use Rattle.twe_machine.proofs.standing.Halfway.{halfway}
-use Rattle.twe_machine.proofs.lists.Places.{got_one, set_same}
-use Rattle.twe_machine.proofs.standing.Standing.{Stands}
+use Rattle.machine_state.specs.declared.state.State.{State}
+use Rattle.machine_state.specs.declared.state.TaskRow.{TaskRow}
+use Rattle.machine_state.specs.declared.state.TaskStatus.TheVariants.{Done}
+use Rattle.machine_state.specs.Changes.{IsDoneWith}
+use Rattle.machine_state.specs.Legal.{MayTake}
+use Rattle.machine_state.specs.Moves.{done_row, joined_child, ran, result_by_kind, state_after_join, stop_result}
+use Rattle.machine_state.specs.Rows.{IsRow}
+use Rattle.machine_state.specs.Runs.{Legal, state_after}
+use Rattle.machine_state.proofs.standing.Halfway.{halfway}
+use Rattle.machine_state.proofs.lists.Places.{got_one, set_same}
+use Rattle.machine_state.proofs.standing.Standing.{Stands}
 use Rattle.determinism_laws.specs.Frames.{EndsGiveValues, left_at}
 use Rattle.determinism_laws.specs.Segments.{IsSegmentOf, state_before}
 use Rattle.determinism_laws.proofs.JournalPlaces.{later_at, stands_at, taken_at, value_end}

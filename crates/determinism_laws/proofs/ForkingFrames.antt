@@ -21,33 +21,33 @@ use Rattle.effect_check.specs.declared.rule.ERule.TheVariants.{E4}
 use Rattle.effect_check.specs.Acts.{is_deterministic, wait}
 use Rattle.effect_check.specs.FailsEffect.{joined}
 use Rattle.effect_check.proofs.Members.{IsIn, both-true, contains-in, in-contains, in-left, in-right}
-use Rattle.seg_exec.specs.declared.frame.Frame.{Frame}
-use Rattle.seg_exec.specs.declared.frame.Next.{Next}
-use Rattle.seg_exec.specs.declared.frame.Next.TheVariants.{Get, Join}
-use Rattle.seg_exec.specs.declared.stop.Stop.{Stop}
-use Rattle.seg_exec.specs.declared.stop.Stop.TheVariants as stops
-use Rattle.seg_exec.specs.Entry.{entry_frame}
-use Rattle.seg_exec.specs.Giving.{given, without}
-use Rattle.seg_exec.specs.Meaning.{body_of}
-use Rattle.seg_exec.specs.Segment.{Stopped, segment, task_of}
+use Rattle.seg_meaning.specs.declared.frame.Frame.{Frame}
+use Rattle.seg_meaning.specs.declared.frame.Next.{Next}
+use Rattle.seg_meaning.specs.declared.frame.Next.TheVariants.{Get, Join}
+use Rattle.seg_meaning.specs.declared.stop.Stop.{Stop}
+use Rattle.seg_meaning.specs.declared.stop.Stop.TheVariants as stops
+use Rattle.seg_meaning.specs.Entry.{entry_frame}
+use Rattle.seg_meaning.specs.Giving.{given, without}
+use Rattle.seg_meaning.specs.Meaning.{body_of}
+use Rattle.seg_meaning.specs.Segment.{Stopped, segment, task_of}
 use Rattle.isolation_laws.specs.soundness.KeepsEffects.{KeepsEffects}
-use Rattle.twe_machine.specs.segment_laws.Keeps.{IsClosing, NextAfter, SegmentKeeps}
-use Rattle.twe_machine.specs.segment_laws.Left.{body_left, left_of}
-use Rattle.twe_machine.specs.segment_laws.Operations.{ComesToMake, ComesToWait}
-use Rattle.twe_machine.specs.segment_laws.Passes.{Passes}
-use Rattle.twe_machine.specs.segment_laws.Ready.{IsReady, futures_at}
-use Rattle.twe_machine.proofs.segment_laws.BeingReady.{entry_ready, ready_declared, ready_given, ready_later, ready_made, ready_same}
-use Rattle.twe_machine.proofs.segment_laws.Following.{given_left, gets_follow, joins_follow, makes_follow}
-use Rattle.twe_machine.proofs.segment_laws.SegmentKept.{segment_keeps}
-use Rattle.twe_machine.specs.Moves.{frame_without_prints, making_frame}
-use Rattle.twe_machine.proofs.lists.Members.{contains_in, in_contains, in_without}
+use Rattle.machine_state.specs.segment_laws.Keeps.{IsClosing, NextAfter, SegmentKeeps}
+use Rattle.machine_state.specs.segment_laws.Left.{body_left, left_of}
+use Rattle.machine_state.specs.segment_laws.Operations.{ComesToMake, ComesToWait}
+use Rattle.machine_state.specs.segment_laws.Passes.{Passes}
+use Rattle.machine_state.specs.segment_laws.Ready.{IsReady, futures_at}
+use Rattle.machine_state.proofs.segment_laws.BeingReady.{entry_ready, ready_declared, ready_given, ready_later, ready_made, ready_same}
+use Rattle.machine_state.proofs.segment_laws.Following.{given_left, gets_follow, joins_follow, makes_follow}
+use Rattle.machine_state.proofs.segment_laws.SegmentKept.{segment_keeps}
+use Rattle.machine_state.specs.Moves.{frame_without_prints, making_frame}
+use Rattle.machine_state.proofs.lists.Members.{contains_in, in_contains, in_without}
 use Rattle.isolation_laws.proofs.frames.Frames.{given_futures, given_none, given_out, still_out}
 use Rattle.isolation_laws.proofs.paths.FuturesOut.{Reached, out-quiet, reached_more, reached_start}
 use Rattle.isolation_laws.proofs.paths.MakesInBodies.{make_act, reached_acts}
 use Rattle.isolation_laws.proofs.rows.ListElements.{get_set_other, get_set_within}
 use Rattle.isolation_laws.proofs.soundness.Given.{given_decl}
 use Rattle.isolation_laws.proofs.soundness.Sound.{got-in}
-use Rattle.seq_elide.specs.Elision.{first_frame, is_child}
+use Rattle.determinism_laws.specs.elision.Elision.{first_frame, is_child}
 use Rattle.determinism_laws.proofs.BodyRules.{gets_nothing, spawns_only}
 
 -- The future stands for an unjoined child of the frame.

@@ -11,32 +11,32 @@ use Rattle.seg_journal.specs.declared.moves.Kind.TheVariants.{Admit, Run}
 use Rattle.twe_base.specs.Limits.{Bounds}
 use Rattle.twe_program.specs.Program.{Program}
 use Rattle.twe_program.specs.WellFormed.{IsWellFormed}
-use Rattle.seg_exec.specs.declared.frame.Frame.{Frame}
-use Rattle.seg_exec.specs.declared.frame.Next.{Next}
-use Rattle.seg_exec.specs.declared.frame.Next.TheVariants.{Go, Get, Join, Closing, Ended}
-use Rattle.seg_exec.specs.declared.stop.Stop.{Stop}
-use Rattle.seg_exec.specs.declared.stop.Stop.TheVariants as ends
-use Rattle.seg_exec.specs.Entry.{effects_at, entry_frame}
-use Rattle.seg_exec.specs.Giving.{given}
-use Rattle.twe_machine.specs.segment_laws.Keeps.{IsClosing, NextAfter}
-use Rattle.twe_machine.proofs.segment_laws.Following.{makes_follow}
-use Rattle.twe_machine.proofs.segment_laws.SegmentKept.{segment_keeps}
+use Rattle.seg_meaning.specs.declared.frame.Frame.{Frame}
+use Rattle.seg_meaning.specs.declared.frame.Next.{Next}
+use Rattle.seg_meaning.specs.declared.frame.Next.TheVariants.{Go, Get, Join, Closing, Ended}
+use Rattle.seg_meaning.specs.declared.stop.Stop.{Stop}
+use Rattle.seg_meaning.specs.declared.stop.Stop.TheVariants as ends
+use Rattle.seg_meaning.specs.Entry.{effects_at, entry_frame}
+use Rattle.seg_meaning.specs.Giving.{given}
+use Rattle.machine_state.specs.segment_laws.Keeps.{IsClosing, NextAfter}
+use Rattle.machine_state.proofs.segment_laws.Following.{makes_follow}
+use Rattle.machine_state.proofs.segment_laws.SegmentKept.{segment_keeps}
 use Rattle.isolation_laws.specs.soundness.KeepsEffects.{KeepsEffects}
 use Rattle.wait_graph.specs.declared.tasks.Link.{Link}
-use Rattle.twe_machine.specs.declared.state.State.{State}
-use Rattle.twe_machine.specs.declared.state.TaskRow.{TaskRow}
+use Rattle.machine_state.specs.declared.state.State.{State}
+use Rattle.machine_state.specs.declared.state.TaskRow.{TaskRow}
 use Rattle.seg_journal.specs.declared.moves.Move.{Move}
-use Rattle.twe_machine.specs.Legal.{MayMove, MayTake}
-use Rattle.twe_machine.specs.Moves.{awaited_value, frame_without_prints, making_frame, move_result, new_row, parent_of, ready_frame, result_by_kind, start_of}
-use Rattle.twe_machine.specs.Rows.{IsRow, row_awaited}
-use Rattle.twe_machine.specs.Runs.{IsReached, LegalFrom, entry_of, replayed}
-use Rattle.twe_machine.proofs.standing.Later.{Later}
-use Rattle.twe_machine.proofs.standing.LaterStates.{taken_later}
-use Rattle.twe_machine.proofs.tasks.OtherRows.{row_after}
-use Rattle.twe_machine.proofs.lists.Places.{below_there, got_one}
-use Rattle.twe_machine.proofs.standing.ReachedStands.{linked_of, reached_stands, taken_stands}
-use Rattle.twe_machine.proofs.replays.Replayed.{run_more}
-use Rattle.twe_machine.proofs.standing.Standing.{Stands}
+use Rattle.machine_state.specs.Legal.{MayMove, MayTake}
+use Rattle.machine_state.specs.Moves.{awaited_value, frame_without_prints, making_frame, move_result, new_row, parent_of, ready_frame, result_by_kind, start_of}
+use Rattle.machine_state.specs.Rows.{IsRow, row_awaited}
+use Rattle.machine_state.specs.Runs.{IsReached, LegalFrom, entry_of, replayed}
+use Rattle.machine_state.proofs.standing.Later.{Later}
+use Rattle.machine_state.proofs.standing.LaterStates.{taken_later}
+use Rattle.machine_state.proofs.tasks.OtherRows.{row_after}
+use Rattle.machine_state.proofs.lists.Places.{below_there, got_one}
+use Rattle.machine_state.proofs.standing.ReachedStands.{linked_of, reached_stands, taken_stands}
+use Rattle.machine_state.proofs.replays.Replayed.{run_more}
+use Rattle.machine_state.proofs.standing.Standing.{Stands}
 use Rattle.isolation_laws.proofs.journals.Invariant.{Kept}
 use Rattle.isolation_laws.proofs.journals.Journals.{reached_kept}
 use Rattle.isolation_laws.proofs.rows.LinksOfRows.{link_there}

@@ -5,20 +5,20 @@ use Rattle.seg_journal.specs.declared.journal.Entry.{Entry}
 use Rattle.twe_base.specs.Limits.{Bounds}
 use Rattle.twe_program.specs.Program.{Program}
 use Rattle.twe_program.specs.WellFormed.{IsWellFormed}
-use Rattle.twe_machine.specs.declared.state.State.{State}
-use Rattle.twe_machine.specs.declared.state.TaskRow.{TaskRow}
-use Rattle.twe_machine.specs.declared.state.TaskStatus.TheVariants.{Done}
-use Rattle.twe_machine.specs.Changes.{IsDoneWith}
-use Rattle.twe_machine.specs.Legal.{MayMove}
-use Rattle.twe_machine.specs.Moves.{move_result, start_of}
-use Rattle.twe_machine.specs.Rows.{HasStatus, IsRow}
-use Rattle.twe_machine.specs.Runs.{IsReached, Legal, LegalFrom, replayed, state_after}
-use Rattle.twe_machine.proofs.tasks.DoneStays.{value_stays_on}
-use Rattle.twe_machine.proofs.standing.Later.{Later}
-use Rattle.twe_machine.proofs.standing.LaterStates.{replayed_later}
-use Rattle.twe_machine.proofs.lists.Places.{got_one}
-use Rattle.twe_machine.proofs.standing.ReachedStands.{linked_of, reached_stands}
-use Rattle.twe_machine.proofs.standing.Standing.{Stands}
+use Rattle.machine_state.specs.declared.state.State.{State}
+use Rattle.machine_state.specs.declared.state.TaskRow.{TaskRow}
+use Rattle.machine_state.specs.declared.state.TaskStatus.TheVariants.{Done}
+use Rattle.machine_state.specs.Changes.{IsDoneWith}
+use Rattle.machine_state.specs.Legal.{MayMove}
+use Rattle.machine_state.specs.Moves.{move_result, start_of}
+use Rattle.machine_state.specs.Rows.{HasStatus, IsRow}
+use Rattle.machine_state.specs.Runs.{IsReached, Legal, LegalFrom, replayed, state_after}
+use Rattle.machine_state.proofs.tasks.DoneStays.{value_stays_on}
+use Rattle.machine_state.proofs.standing.Later.{Later}
+use Rattle.machine_state.proofs.standing.LaterStates.{replayed_later}
+use Rattle.machine_state.proofs.lists.Places.{got_one}
+use Rattle.machine_state.proofs.standing.ReachedStands.{linked_of, reached_stands}
+use Rattle.machine_state.proofs.standing.Standing.{Stands}
 use Rattle.isolation_laws.proofs.journals.Journals.{beginning_reached}
 use Rattle.determinism_laws.specs.Segments.{state_before}
 

@@ -11,23 +11,23 @@ use Rattle.seg_journal.specs.declared.moves.Kind.TheVariants.{Admit, Run}
 use Rattle.seg_journal.specs.declared.moves.Move.{Move}
 use Rattle.twe_program.specs.Program.{Program}
 use Rattle.twe_program.specs.WellFormed.{IsWellFormed}
-use Rattle.seg_exec.specs.declared.frame.Frame.{Frame}
-use Rattle.seg_exec.specs.declared.stop.Stop.{Stop}
-use Rattle.seg_exec.specs.declared.stop.Stop.TheVariants as stops
-use Rattle.seg_exec.specs.Segment.{Stopped}
+use Rattle.seg_meaning.specs.declared.frame.Frame.{Frame}
+use Rattle.seg_meaning.specs.declared.stop.Stop.{Stop}
+use Rattle.seg_meaning.specs.declared.stop.Stop.TheVariants as stops
+use Rattle.seg_meaning.specs.Segment.{Stopped}
 use Rattle.isolation_laws.specs.soundness.KeepsEffects.{KeepsEffects}
-use Rattle.twe_machine.specs.declared.state.State.{State}
-use Rattle.twe_machine.specs.declared.state.TaskRow.{TaskRow}
-use Rattle.twe_machine.specs.declared.state.TaskStatus.TheVariants.{Made, Enabled, Done}
-use Rattle.twe_machine.specs.Changes.{next_segment}
-use Rattle.twe_machine.specs.Legal.{MayMove, MayRun, MayTake}
-use Rattle.twe_machine.specs.Moves.{joined_row, move_result, result_by_kind}
-use Rattle.twe_machine.specs.Rows.{HasStatus, IsRow}
-use Rattle.twe_machine.specs.Runs.{AllTasksDone, IsReached, LegalFrom, entry_of, replayed}
-use Rattle.twe_machine.proofs.lists.Members.{contains_in}
-use Rattle.twe_machine.proofs.lists.Places.{below_there, got_one}
-use Rattle.twe_machine.proofs.standing.ReachedStands.{reached_stands}
-use Rattle.twe_machine.proofs.tasks.Movers.{mover_undone}
+use Rattle.machine_state.specs.declared.state.State.{State}
+use Rattle.machine_state.specs.declared.state.TaskRow.{TaskRow}
+use Rattle.machine_state.specs.declared.state.TaskStatus.TheVariants.{Made, Enabled, Done}
+use Rattle.machine_state.specs.Changes.{next_segment}
+use Rattle.machine_state.specs.Legal.{MayMove, MayRun, MayTake}
+use Rattle.machine_state.specs.Moves.{joined_row, move_result, result_by_kind}
+use Rattle.machine_state.specs.Rows.{HasStatus, IsRow}
+use Rattle.machine_state.specs.Runs.{AllTasksDone, IsReached, LegalFrom, entry_of, replayed}
+use Rattle.machine_state.proofs.lists.Members.{contains_in}
+use Rattle.machine_state.proofs.lists.Places.{below_there, got_one}
+use Rattle.machine_state.proofs.standing.ReachedStands.{reached_stands}
+use Rattle.machine_state.proofs.tasks.Movers.{mover_undone}
 use Rattle.determinism_laws.specs.numbering.Renumbering.{Numbering}
 use Rattle.determinism_laws.specs.results.Main.{MainIsDeterministic}
 use Rattle.determinism_laws.proofs.results.MainTree.{in_tree}

@@ -16,31 +16,31 @@ use Rattle.wait_graph.specs.Link.{link_of}
 use Rattle.wait_graph.specs.Waiting.{WaitsFor}
 use Rattle.twe_program.specs.Program.{Program}
 use Rattle.twe_program.specs.WellFormed.{IsWellFormed}
-use Rattle.seg_exec.specs.declared.frame.Frame.{Frame}
-use Rattle.seg_exec.specs.Access.{Access, Prints, Reads, Writes, after}
-use Rattle.seg_exec.specs.Giving.{given}
-use Rattle.seg_exec.specs.Segment.{Stopped, segment}
-use Rattle.seg_exec.proofs.Determined.{segment_agrees, segment_determined}
+use Rattle.seg_meaning.specs.declared.frame.Frame.{Frame}
+use Rattle.seg_meaning.specs.Access.{Access, Prints, Reads, Writes, after}
+use Rattle.seg_meaning.specs.Giving.{given}
+use Rattle.seg_meaning.specs.Segment.{Stopped, segment}
+use Rattle.seg_meaning.proofs.Determined.{segment_agrees, segment_determined}
 use Rattle.isolation_laws.specs.soundness.CellPaths.{path_of_cell}
 use Rattle.isolation_laws.specs.soundness.DeclaredNow.{access_of}
 use Rattle.isolation_laws.specs.soundness.KeepsEffects.{KeepsEffects}
 use Rattle.isolation_laws.proofs.rows.LinksOfRows.{done_row, link_there}
 use Rattle.isolation_laws.proofs.running.Movers.{movers_apart}
-use Rattle.twe_machine.specs.declared.state.State.{State}
-use Rattle.twe_machine.specs.declared.state.TaskRow.{TaskRow}
-use Rattle.twe_machine.specs.declared.state.TaskStatus.TheVariants.{Enabled}
-use Rattle.twe_machine.specs.Changes.{LeavesAlone, ResultsAfter, TakesJoin, next_segment}
-use Rattle.twe_machine.specs.Legal.{MayMove, MayRun, MayTake}
-use Rattle.twe_machine.specs.Moves.{awaited_value, move_result, ready_frame, value_of}
-use Rattle.twe_machine.specs.Rows.{IsRow, is_done_status, row_awaited}
-use Rattle.twe_machine.specs.Runs.{IsReached, entry_of}
-use Rattle.twe_machine.specs.Changes.{IsDoneWith}
-use Rattle.twe_machine.proofs.tasks.DoneStays.{value_stays}
-use Rattle.twe_machine.proofs.tasks.LeftAlone.{moves_leave_alone}
-use Rattle.twe_machine.proofs.lists.Places.{got_one}
-use Rattle.twe_machine.proofs.replays.Replayed.{run_more}
-use Rattle.twe_machine.proofs.standing.ReachedStands.{reached_stands}
-use Rattle.twe_machine.proofs.standing.Standing.{Stands}
+use Rattle.machine_state.specs.declared.state.State.{State}
+use Rattle.machine_state.specs.declared.state.TaskRow.{TaskRow}
+use Rattle.machine_state.specs.declared.state.TaskStatus.TheVariants.{Enabled}
+use Rattle.machine_state.specs.Changes.{LeavesAlone, ResultsAfter, TakesJoin, next_segment}
+use Rattle.machine_state.specs.Legal.{MayMove, MayRun, MayTake}
+use Rattle.machine_state.specs.Moves.{awaited_value, move_result, ready_frame, value_of}
+use Rattle.machine_state.specs.Rows.{IsRow, is_done_status, row_awaited}
+use Rattle.machine_state.specs.Runs.{IsReached, entry_of}
+use Rattle.machine_state.specs.Changes.{IsDoneWith}
+use Rattle.machine_state.proofs.tasks.DoneStays.{value_stays}
+use Rattle.machine_state.proofs.tasks.LeftAlone.{moves_leave_alone}
+use Rattle.machine_state.proofs.lists.Places.{got_one}
+use Rattle.machine_state.proofs.replays.Replayed.{run_more}
+use Rattle.machine_state.proofs.standing.ReachedStands.{reached_stands}
+use Rattle.machine_state.proofs.standing.Standing.{Stands}
 use Rattle.determinism_laws.specs.Orders.{is_access_of, is_write_of}
 use Rattle.determinism_laws.proofs.SameValues.{agrees_alike, unwritten}
 use Rattle.determinism_laws.specs.Independence.{KeepsNextSegment}

@@ -15,7 +15,7 @@ use Rattle.seg_journal.specs.declared.journal.Entry.{Entry}
 use Rattle.twe_base.specs.Limits.{Bounds}
 use Rattle.twe_program.specs.Program.{Program}
 use Rattle.twe_program.specs.WellFormed.{IsWellFormed}
-use Rattle.seg_exec.specs.Access.{Access}
+use Rattle.seg_meaning.specs.Access.{Access}
 use Rattle.isolation_laws.specs.soundness.DeclaredNow.{access_of}
 use Rattle.isolation_laws.specs.soundness.KeepsEffects.{KeepsEffects}
 use Rattle.wait_graph.specs.declared.tasks.Link.{Link}
@@ -23,13 +23,13 @@ use Rattle.wait_graph.specs.Chain.{none, more}
 use Rattle.wait_graph.specs.Waiting.{DescendsFrom, IsDone, WaitsOn}
 use Rattle.wait_graph.proofs.ChainLemmas.{Chain-arrives}
 use Rattle.wait_graph.proofs.WaitingLemmas.{YieldsTo-alone}
-use Rattle.twe_machine.specs.declared.state.State.{State}
-use Rattle.twe_machine.specs.declared.state.TaskRow.{TaskRow}
-use Rattle.twe_machine.specs.declared.state.TaskStatus.TheVariants.{Enabled}
-use Rattle.twe_machine.specs.Legal.{MayRun}
-use Rattle.twe_machine.specs.Rows.{HasStatus, IsRow}
-use Rattle.twe_machine.specs.Runs.{Legal, state_after}
-use Rattle.twe_machine.proofs.lists.Places.{got_one}
+use Rattle.machine_state.specs.declared.state.State.{State}
+use Rattle.machine_state.specs.declared.state.TaskRow.{TaskRow}
+use Rattle.machine_state.specs.declared.state.TaskStatus.TheVariants.{Enabled}
+use Rattle.machine_state.specs.Legal.{MayRun}
+use Rattle.machine_state.specs.Rows.{HasStatus, IsRow}
+use Rattle.machine_state.specs.Runs.{Legal, state_after}
+use Rattle.machine_state.proofs.lists.Places.{got_one}
 use Rattle.isolation_laws.proofs.effects.Interference.{AllWithin, any-in, in-any, meet-some}
 use Rattle.isolation_laws.proofs.journals.Invariant.{done_childless}
 use Rattle.isolation_laws.proofs.rows.Descents.{last_step, within_along}

@@ -11,11 +11,11 @@ use Rattle.twe_program.specs.WellFormed.{IsWellFormed}
 use Rattle.isolation_laws.specs.soundness.KeepsEffects.{KeepsEffects}
 use Rattle.wait_graph.specs.Chain.{none, more}
 use Rattle.wait_graph.proofs.ChainLemmas.{Chain-rest, Chain-stays}
-use Rattle.twe_machine.specs.declared.state.State.{State}
-use Rattle.twe_machine.specs.declared.state.TaskRow.{TaskRow}
-use Rattle.twe_machine.specs.Changes.{next_segment}
-use Rattle.twe_machine.specs.Runs.{Legal, state_after}
-use Rattle.twe_machine.proofs.lists.Places.{got_one}
+use Rattle.machine_state.specs.declared.state.State.{State}
+use Rattle.machine_state.specs.declared.state.TaskRow.{TaskRow}
+use Rattle.machine_state.specs.Changes.{next_segment}
+use Rattle.machine_state.specs.Runs.{Legal, state_after}
+use Rattle.machine_state.proofs.lists.Places.{got_one}
 use Rattle.determinism_laws.specs.Orders.{SegmentAccesses}
 use Rattle.determinism_laws.specs.Ranks.{BelowTask, HasParent, IsBelow}
 use Rattle.determinism_laws.specs.Segments.{IsSegmentOf, state_before}

@@ -10,22 +10,22 @@ use Rattle.seg_journal.specs.declared.moves.Kind.TheVariants.{Admit}
 use Rattle.seg_journal.specs.declared.moves.Move.{Move}
 use Rattle.twe_program.specs.Program.{Program}
 use Rattle.twe_program.specs.WellFormed.{IsWellFormed}
-use Rattle.seg_exec.specs.Entry.{effects_at, entry_frame}
+use Rattle.seg_meaning.specs.Entry.{effects_at, entry_frame}
 use Rattle.isolation_laws.specs.soundness.KeepsEffects.{KeepsEffects}
-use Rattle.twe_machine.specs.declared.state.State.{State}
-use Rattle.twe_machine.specs.declared.state.TaskRow.{TaskRow}
-use Rattle.twe_machine.specs.declared.state.TaskStatus.TheVariants.{Enabled, Done}
-use Rattle.twe_machine.specs.Legal.{MayMove}
-use Rattle.twe_machine.specs.Moves.{admitted_row, initial_values, move_result, new_row, start_of}
-use Rattle.twe_machine.specs.Rows.{HasStatus, IsRow}
-use Rattle.twe_machine.specs.Runs.{AllTasksDone, IsReached, entry_of}
-use Rattle.twe_machine.proofs.tasks.DoneFirst.{children_joined}
-use Rattle.twe_machine.proofs.lists.Places.{below_there, got_one}
-use Rattle.twe_machine.proofs.standing.ReachedStands.{reached_stands}
-use Rattle.twe_machine.proofs.replays.Replayed.{run_more}
-use Rattle.twe_machine.proofs.standing.Standing.{Stands}
-use Rattle.seq_elide.specs.declared.progress.Progress.{Progress}
-use Rattle.seq_elide.specs.Elision.{ends, fails, elided, most_segments}
+use Rattle.machine_state.specs.declared.state.State.{State}
+use Rattle.machine_state.specs.declared.state.TaskRow.{TaskRow}
+use Rattle.machine_state.specs.declared.state.TaskStatus.TheVariants.{Enabled, Done}
+use Rattle.machine_state.specs.Legal.{MayMove}
+use Rattle.machine_state.specs.Moves.{admitted_row, initial_values, move_result, new_row, start_of}
+use Rattle.machine_state.specs.Rows.{HasStatus, IsRow}
+use Rattle.machine_state.specs.Runs.{AllTasksDone, IsReached, entry_of}
+use Rattle.machine_state.proofs.tasks.DoneFirst.{children_joined}
+use Rattle.machine_state.proofs.lists.Places.{below_there, got_one}
+use Rattle.machine_state.proofs.standing.ReachedStands.{reached_stands}
+use Rattle.machine_state.proofs.replays.Replayed.{run_more}
+use Rattle.machine_state.proofs.standing.Standing.{Stands}
+use Rattle.determinism_laws.specs.declared.elision.progress.Progress.{Progress}
+use Rattle.determinism_laws.specs.elision.Elision.{ends, fails, elided, most_segments}
 use Rattle.determinism_laws.specs.results.Main.{MainIsDeterministic}
 use Rattle.determinism_laws.proofs.results.MainTree.{in_tree}
 use Rattle.determinism_laws.specs.Endings.{IsFaultOfRun, SomeRunFinishes}

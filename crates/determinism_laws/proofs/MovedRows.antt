@@ -12,25 +12,25 @@ use Rattle.wait_graph.specs.declared.tasks.Link.{Link}
 use Rattle.wait_graph.specs.Link.{link_of}
 use Rattle.twe_program.specs.Program.{Program}
 use Rattle.twe_program.specs.WellFormed.{IsWellFormed}
-use Rattle.seg_exec.specs.declared.frame.Frame.{Frame}
-use Rattle.seg_exec.specs.declared.stop.Stop.{Stop}
-use Rattle.seg_exec.specs.declared.stop.Stop.TheVariants as stops
-use Rattle.seg_exec.specs.Segment.{Stopped}
+use Rattle.seg_meaning.specs.declared.frame.Frame.{Frame}
+use Rattle.seg_meaning.specs.declared.stop.Stop.{Stop}
+use Rattle.seg_meaning.specs.declared.stop.Stop.TheVariants as stops
+use Rattle.seg_meaning.specs.Segment.{Stopped}
 use Rattle.isolation_laws.proofs.rows.LinksOfRows.{link_there}
-use Rattle.twe_machine.specs.declared.state.State.{State}
-use Rattle.twe_machine.specs.declared.state.TaskRow.{TaskRow}
-use Rattle.twe_machine.specs.Changes.{LeavesAlone, asked_by, made_by, next_segment}
-use Rattle.twe_machine.specs.Legal.{MayRun}
-use Rattle.twe_machine.specs.Moves.{done_row, faulted_row, going_row, joined_child, joined_row, making_frame, new_row, parent_of, ran, result_by_kind, state_after_asking, state_after_fault, state_after_join, state_after_make, stop_result, stopped_frame}
-use Rattle.twe_machine.specs.Rows.{IsRow, row_awaited}
-use Rattle.twe_machine.specs.Runs.{IsReached}
-use Rattle.twe_machine.proofs.lists.Places.{put_before, put_last, set_same}
-use Rattle.twe_machine.proofs.standing.Halfway.{halfway}
-use Rattle.twe_machine.proofs.standing.ReachedStands.{reached_stands}
-use Rattle.twe_machine.proofs.standing.Standing.{Stands}
-use Rattle.twe_machine.proofs.tasks.LeftAlone.{moves_leave_alone}
-use Rattle.twe_machine.proofs.tasks.OtherRows.{child_of, row_after, taken_child}
-use Rattle.twe_machine.proofs.weight.JoinedWeight.{asked_joined, length_joined}
+use Rattle.machine_state.specs.declared.state.State.{State}
+use Rattle.machine_state.specs.declared.state.TaskRow.{TaskRow}
+use Rattle.machine_state.specs.Changes.{LeavesAlone, asked_by, made_by, next_segment}
+use Rattle.machine_state.specs.Legal.{MayRun}
+use Rattle.machine_state.specs.Moves.{done_row, faulted_row, going_row, joined_child, joined_row, making_frame, new_row, parent_of, ran, result_by_kind, state_after_asking, state_after_fault, state_after_join, state_after_make, stop_result, stopped_frame}
+use Rattle.machine_state.specs.Rows.{IsRow, row_awaited}
+use Rattle.machine_state.specs.Runs.{IsReached}
+use Rattle.machine_state.proofs.lists.Places.{put_before, put_last, set_same}
+use Rattle.machine_state.proofs.standing.Halfway.{halfway}
+use Rattle.machine_state.proofs.standing.ReachedStands.{reached_stands}
+use Rattle.machine_state.proofs.standing.Standing.{Stands}
+use Rattle.machine_state.proofs.tasks.LeftAlone.{moves_leave_alone}
+use Rattle.machine_state.proofs.tasks.OtherRows.{child_of, row_after, taken_child}
+use Rattle.machine_state.proofs.weight.JoinedWeight.{asked_joined, length_joined}
 use Rattle.determinism_laws.proofs.NearFaults.{ends_in_fault}
 
 -- the row of the task that ran, if its segment left this frame and stopped in this way; a task that it made has this number

@@ -9,18 +9,18 @@ use Rattle.effect_sets.specs.declared.effects.Summary.{Summary}
 use Rattle.effect_check.specs.Acts.{is_deterministic}
 use Rattle.twe_program.specs.Program.{Program}
 use Rattle.twe_program.specs.WellFormed.{IsWellFormed}
-use Rattle.seg_exec.specs.declared.frame.Frame.{Frame}
-use Rattle.seg_exec.specs.declared.stop.Stop.{Stop}
-use Rattle.seg_exec.specs.declared.stop.Stop.TheVariants as stops
-use Rattle.seg_exec.specs.Giving.{given}
-use Rattle.seg_exec.specs.Segment.{Stopped, segment}
+use Rattle.seg_meaning.specs.declared.frame.Frame.{Frame}
+use Rattle.seg_meaning.specs.declared.stop.Stop.{Stop}
+use Rattle.seg_meaning.specs.declared.stop.Stop.TheVariants as stops
+use Rattle.seg_meaning.specs.Giving.{given}
+use Rattle.seg_meaning.specs.Segment.{Stopped, segment}
 use Rattle.isolation_laws.specs.soundness.KeepsEffects.{KeepsEffects}
-use Rattle.twe_machine.specs.segment_laws.Keeps.{NextAfter}
-use Rattle.twe_machine.proofs.segment_laws.SegmentKept.{segment_keeps}
-use Rattle.twe_machine.specs.Moves.{frame_without_prints, making_frame}
-use Rattle.seq_elide.specs.declared.progress.Progress.{Progress}
-use Rattle.seq_elide.specs.Elision.{Ending, ends, fails, strays, goes_on, after_stop, elided, first_frame, frame_at_start, is_child, kept_value, most_segments, progress_at_start, run_within, then_go_on, with_segment, with_task}
-use Rattle.seq_elide.proofs.Within.{HasAtLeast, one_more, run_grows}
+use Rattle.machine_state.specs.segment_laws.Keeps.{NextAfter}
+use Rattle.machine_state.proofs.segment_laws.SegmentKept.{segment_keeps}
+use Rattle.machine_state.specs.Moves.{frame_without_prints, making_frame}
+use Rattle.determinism_laws.specs.declared.elision.progress.Progress.{Progress}
+use Rattle.determinism_laws.specs.elision.Elision.{Ending, ends, fails, strays, goes_on, after_stop, elided, first_frame, frame_at_start, is_child, kept_value, most_segments, progress_at_start, run_within, then_go_on, with_segment, with_task}
+use Rattle.determinism_laws.proofs.elision.Within.{HasAtLeast, one_more, run_grows}
 use Rattle.determinism_laws.proofs.ForkingFrames.{Forking, child_forking, first_forking, forking_later, joined_forking, joins_child, maker_forking, never_gets, only_spawns}
 
 abbrev StaysOn : Ending → Type 0

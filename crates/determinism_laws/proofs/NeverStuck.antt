@@ -14,18 +14,18 @@ use Rattle.wait_graph.specs.Link.{link_of}
 use Rattle.wait_graph.specs.Waiting.{WaitsFor}
 use Rattle.isolation_laws.specs.soundness.KeepsEffects.{KeepsEffects}
 use Rattle.isolation_laws.proofs.rows.LinksOfRows.{link_there}
-use Rattle.twe_machine.specs.declared.ending.Outcome.TheVariants.{Stuck}
-use Rattle.twe_machine.specs.declared.state.State.{State}
-use Rattle.twe_machine.specs.declared.state.TaskRow.{TaskRow}
-use Rattle.twe_machine.specs.declared.state.TaskStatus.{TaskStatus}
-use Rattle.twe_machine.specs.declared.state.TaskStatus.TheVariants.{Made, Enabled, Done, Faulted}
-use Rattle.twe_machine.specs.Legal.{MayMove}
-use Rattle.twe_machine.specs.Rows.{HasStatus, IsRow, is_done_status, link_of_row}
-use Rattle.twe_machine.specs.Runs.{AllTasksDone, IsOutcome, IsReached}
-use Rattle.twe_machine.proofs.links.Ordered.{reached_ordered}
-use Rattle.twe_machine.proofs.lists.Places.{below_there, got_one}
-use Rattle.twe_machine.proofs.standing.ReachedStands.{reached_stands}
-use Rattle.twe_machine.proofs.standing.Standing.{Stands}
+use Rattle.machine_state.specs.declared.ending.Outcome.TheVariants.{Stuck}
+use Rattle.machine_state.specs.declared.state.State.{State}
+use Rattle.machine_state.specs.declared.state.TaskRow.{TaskRow}
+use Rattle.machine_state.specs.declared.state.TaskStatus.{TaskStatus}
+use Rattle.machine_state.specs.declared.state.TaskStatus.TheVariants.{Made, Enabled, Done, Faulted}
+use Rattle.machine_state.specs.Legal.{MayMove}
+use Rattle.machine_state.specs.Rows.{HasStatus, IsRow, is_done_status, link_of_row}
+use Rattle.machine_state.specs.Runs.{AllTasksDone, IsOutcome, IsReached}
+use Rattle.machine_state.proofs.links.Ordered.{reached_ordered}
+use Rattle.machine_state.proofs.lists.Places.{below_there, got_one}
+use Rattle.machine_state.proofs.standing.ReachedStands.{reached_stands}
+use Rattle.machine_state.proofs.standing.Standing.{Stands}
 use Rattle.determinism_laws.specs.results.Main.{MainIsDeterministic}
 use Rattle.determinism_laws.proofs.results.MainTree.{in_tree}
 use Rattle.std.proofs.lemmas.Option.{slice_get_within}

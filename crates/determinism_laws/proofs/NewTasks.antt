@@ -13,20 +13,20 @@ use Rattle.seg_journal.specs.declared.moves.Kind.{Kind}
 use Rattle.seg_journal.specs.declared.moves.Kind.TheVariants.{Admit, Run}
 use Rattle.wait_graph.specs.Link.{link_of}
 use Rattle.twe_program.specs.Program.{Program}
-use Rattle.seg_exec.specs.declared.frame.Frame.{Frame}
-use Rattle.seg_exec.specs.declared.frame.Next.TheVariants.{Ended}
-use Rattle.seg_exec.specs.declared.stop.Stop.{Stop}
-use Rattle.seg_exec.specs.declared.stop.Stop.TheVariants as stops
-use Rattle.seg_exec.specs.Segment.{Stopped, segment}
-use Rattle.twe_machine.specs.declared.state.State.{State}
-use Rattle.twe_machine.specs.declared.state.TaskRow.{TaskRow}
-use Rattle.twe_machine.specs.Legal.{MayTake}
-use Rattle.twe_machine.specs.Moves.{admitted, admitted_row, done_row, faulted_row, frame_without_prints, going_row, joined_child, making_frame, new_row, parent_of, ran, ready_frame, result_by_kind, state_after_asking, state_after_fault, state_after_join, state_after_make, status_at_start, stop_result, stopped_frame}
-use Rattle.twe_machine.specs.Rows.{IsRow}
-use Rattle.twe_machine.proofs.standing.Halfway.{halfway}
-use Rattle.twe_machine.proofs.weight.JoinedWeight.{length_joined}
-use Rattle.twe_machine.proofs.lists.Places.{got_one, put_before, put_cases, set_same}
-use Rattle.twe_machine.proofs.standing.Standing.{Stands}
+use Rattle.seg_meaning.specs.declared.frame.Frame.{Frame}
+use Rattle.seg_meaning.specs.declared.frame.Next.TheVariants.{Ended}
+use Rattle.seg_meaning.specs.declared.stop.Stop.{Stop}
+use Rattle.seg_meaning.specs.declared.stop.Stop.TheVariants as stops
+use Rattle.seg_meaning.specs.Segment.{Stopped, segment}
+use Rattle.machine_state.specs.declared.state.State.{State}
+use Rattle.machine_state.specs.declared.state.TaskRow.{TaskRow}
+use Rattle.machine_state.specs.Legal.{MayTake}
+use Rattle.machine_state.specs.Moves.{admitted, admitted_row, done_row, faulted_row, frame_without_prints, going_row, joined_child, making_frame, new_row, parent_of, ran, ready_frame, result_by_kind, state_after_asking, state_after_fault, state_after_join, state_after_make, status_at_start, stop_result, stopped_frame}
+use Rattle.machine_state.specs.Rows.{IsRow}
+use Rattle.machine_state.proofs.standing.Halfway.{halfway}
+use Rattle.machine_state.proofs.weight.JoinedWeight.{length_joined}
+use Rattle.machine_state.proofs.lists.Places.{got_one, put_before, put_cases, set_same}
+use Rattle.machine_state.proofs.standing.Standing.{Stands}
 
 -- A segment of t with this stop made task c, which has this row: the stop is at the make of a frame of the row's
 -- declaration, and t is the row's parent if the make is a spawn. It begins as it was made.

@@ -17,30 +17,30 @@ use Rattle.effect_check.specs.declared.rule.ERule.TheVariants.{E4}
 use Rattle.effect_check.specs.Acts.{wait}
 use Rattle.effect_check.specs.FailsEffect.{joined}
 use Rattle.effect_check.proofs.Members.{IsIn, both-true, contains-in, in-contains, in-left, in-right}
-use Rattle.seg_exec.specs.declared.frame.Frame.{Frame}
-use Rattle.seg_exec.specs.declared.frame.Next.{Next}
-use Rattle.seg_exec.specs.declared.frame.Next.TheVariants.{Go, Join}
-use Rattle.seg_exec.specs.declared.stop.Stop.{Stop}
-use Rattle.seg_exec.specs.declared.stop.Stop.TheVariants as ends
-use Rattle.seg_exec.specs.Entry.{entry_frame}
-use Rattle.seg_exec.specs.Giving.{given, without}
-use Rattle.seg_exec.specs.Meaning.{body_of}
-use Rattle.seg_exec.specs.Segment.{task_of}
+use Rattle.seg_meaning.specs.declared.frame.Frame.{Frame}
+use Rattle.seg_meaning.specs.declared.frame.Next.{Next}
+use Rattle.seg_meaning.specs.declared.frame.Next.TheVariants.{Go, Join}
+use Rattle.seg_meaning.specs.declared.stop.Stop.{Stop}
+use Rattle.seg_meaning.specs.declared.stop.Stop.TheVariants as ends
+use Rattle.seg_meaning.specs.Entry.{entry_frame}
+use Rattle.seg_meaning.specs.Giving.{given, without}
+use Rattle.seg_meaning.specs.Meaning.{body_of}
+use Rattle.seg_meaning.specs.Segment.{task_of}
 use Rattle.isolation_laws.specs.soundness.KeepsEffects.{KeepsEffects}
-use Rattle.twe_machine.specs.segment_laws.Keeps.{NextAfter}
-use Rattle.twe_machine.specs.segment_laws.Left.{left_of}
-use Rattle.twe_machine.specs.segment_laws.Operations.{ComesToMake, ComesToWait}
-use Rattle.twe_machine.specs.segment_laws.Passes.{Passes}
-use Rattle.twe_machine.specs.segment_laws.Ready.{futures_at}
-use Rattle.twe_machine.proofs.segment_laws.BeingReady.{ready_declared, ready_given}
-use Rattle.twe_machine.proofs.segment_laws.Following.{given_left, joins_follow, makes_follow}
-use Rattle.twe_machine.proofs.segment_laws.SegmentKept.{segment_keeps}
-use Rattle.twe_machine.specs.declared.state.State.{State}
-use Rattle.twe_machine.specs.declared.state.TaskRow.{TaskRow}
-use Rattle.twe_machine.specs.Moves.{awaited_value, frame_without_prints, making_frame}
-use Rattle.twe_machine.specs.Rows.{IsRow, row_awaited}
-use Rattle.twe_machine.proofs.lists.Members.{contains_in, in_contains, in_without}
-use Rattle.twe_machine.proofs.standing.Standing.{Stands}
+use Rattle.machine_state.specs.segment_laws.Keeps.{NextAfter}
+use Rattle.machine_state.specs.segment_laws.Left.{left_of}
+use Rattle.machine_state.specs.segment_laws.Operations.{ComesToMake, ComesToWait}
+use Rattle.machine_state.specs.segment_laws.Passes.{Passes}
+use Rattle.machine_state.specs.segment_laws.Ready.{futures_at}
+use Rattle.machine_state.proofs.segment_laws.BeingReady.{ready_declared, ready_given}
+use Rattle.machine_state.proofs.segment_laws.Following.{given_left, joins_follow, makes_follow}
+use Rattle.machine_state.proofs.segment_laws.SegmentKept.{segment_keeps}
+use Rattle.machine_state.specs.declared.state.State.{State}
+use Rattle.machine_state.specs.declared.state.TaskRow.{TaskRow}
+use Rattle.machine_state.specs.Moves.{awaited_value, frame_without_prints, making_frame}
+use Rattle.machine_state.specs.Rows.{IsRow, row_awaited}
+use Rattle.machine_state.proofs.lists.Members.{contains_in, in_contains, in_without}
+use Rattle.machine_state.proofs.standing.Standing.{Stands}
 use Rattle.isolation_laws.proofs.frames.AfterSegment.{after, after_decl, after_futures, after_out}
 use Rattle.isolation_laws.proofs.frames.EndedBody.{some_at_join, some_at_make}
 use Rattle.isolation_laws.proofs.frames.Frames.{given_futures, still_out}

@@ -11,17 +11,17 @@ use Rattle.seg_journal.specs.declared.moves.Kind.TheVariants.{Admit, Run}
 use Rattle.twe_base.specs.Limits.{Bounds}
 use Rattle.twe_program.specs.Program.{Program}
 use Rattle.twe_program.specs.WellFormed.{IsWellFormed}
-use Rattle.seg_exec.specs.Access.{Access, Prints, Reads, Writes, after}
-use Rattle.seg_exec.proofs.Determined.{segment_agrees}
+use Rattle.seg_meaning.specs.Access.{Access, Prints, Reads, Writes, after}
+use Rattle.seg_meaning.proofs.Determined.{segment_agrees}
 use Rattle.isolation_laws.specs.soundness.DeclaredNow.{access_of}
 use Rattle.isolation_laws.specs.soundness.KeepsEffects.{KeepsEffects}
-use Rattle.twe_machine.specs.declared.state.State.{State}
-use Rattle.twe_machine.specs.declared.state.TaskRow.{TaskRow}
-use Rattle.twe_machine.specs.Changes.{ResultsAfter, next_segment}
-use Rattle.twe_machine.specs.Moves.{move_result, ready_frame}
-use Rattle.twe_machine.specs.Rows.{IsRow}
-use Rattle.twe_machine.specs.Runs.{Legal, state_after}
-use Rattle.twe_machine.proofs.tasks.LeftAlone.{moves_leave_alone}
+use Rattle.machine_state.specs.declared.state.State.{State}
+use Rattle.machine_state.specs.declared.state.TaskRow.{TaskRow}
+use Rattle.machine_state.specs.Changes.{ResultsAfter, next_segment}
+use Rattle.machine_state.specs.Moves.{move_result, ready_frame}
+use Rattle.machine_state.specs.Rows.{IsRow}
+use Rattle.machine_state.specs.Runs.{Legal, state_after}
+use Rattle.machine_state.proofs.tasks.LeftAlone.{moves_leave_alone}
 use Rattle.determinism_laws.specs.Deterministic.{IsDeterministic}
 use Rattle.determinism_laws.specs.Orders.{SegmentAccesses, after_all, is_write_of}
 use Rattle.determinism_laws.specs.Ranks.{IsBelow}

@@ -10,13 +10,13 @@ use Rattle.seg_journal.specs.declared.journal.Entry.{Entry}
 use Rattle.twe_base.specs.Limits.{Bounds}
 use Rattle.twe_program.specs.Program.{Program}
 use Rattle.twe_program.specs.WellFormed.{IsWellFormed}
-use Rattle.seg_exec.specs.Access.{Access, Prints, Reads, Writes}
+use Rattle.seg_meaning.specs.Access.{Access, Prints, Reads, Writes}
 use Rattle.isolation_laws.specs.soundness.CellPaths.{path_of_cell}
 use Rattle.isolation_laws.specs.soundness.DeclaredNow.{access_of}
 use Rattle.isolation_laws.specs.soundness.KeepsEffects.{KeepsEffects}
-use Rattle.twe_machine.specs.declared.state.TaskRow.{TaskRow}
-use Rattle.twe_machine.specs.Rows.{IsRow}
-use Rattle.twe_machine.specs.Runs.{Legal, state_after}
+use Rattle.machine_state.specs.declared.state.TaskRow.{TaskRow}
+use Rattle.machine_state.specs.Rows.{IsRow}
+use Rattle.machine_state.specs.Runs.{Legal, state_after}
 use Rattle.isolation_laws.proofs.effects.Interference.{any-in, in-any}
 use Rattle.determinism_laws.specs.Deterministic.{IsDeterministic}
 use Rattle.determinism_laws.specs.Orders.{AgreeOn, EachStandsOnce, PrecedesIn, SegmentAccesses, SegmentsConflict, accesses_cell, after_all, is_access_of}

@@ -9,12 +9,12 @@ use Rattle.twe_program.specs.WellFormed.{IsWellFormed}
 use Rattle.isolation_laws.specs.soundness.KeepsEffects.{KeepsEffects}
 use Rattle.wait_graph.specs.Chain.{Chain, none, more}
 use Rattle.wait_graph.proofs.ChainLemmas.{Chain-fork, Chain-push}
-use Rattle.twe_machine.specs.declared.state.State.{State}
-use Rattle.twe_machine.specs.declared.state.TaskRow.{TaskRow}
-use Rattle.twe_machine.specs.Runs.{IsReached, Legal, state_after}
-use Rattle.twe_machine.proofs.lists.Places.{got_one}
-use Rattle.twe_machine.proofs.standing.ReachedStands.{reached_stands}
-use Rattle.twe_machine.proofs.standing.Standing.{Stands}
+use Rattle.machine_state.specs.declared.state.State.{State}
+use Rattle.machine_state.specs.declared.state.TaskRow.{TaskRow}
+use Rattle.machine_state.specs.Runs.{IsReached, Legal, state_after}
+use Rattle.machine_state.proofs.lists.Places.{got_one}
+use Rattle.machine_state.proofs.standing.ReachedStands.{reached_stands}
+use Rattle.machine_state.proofs.standing.Standing.{Stands}
 use Rattle.determinism_laws.specs.Ranks.{AllHaveRanks, BelowTask, ComesBefore, HasParent, HasRank, IsBelow, OneRankEach, OneSegmentEach, SegmentsAreInOrder}
 use Rattle.determinism_laws.specs.Segments.{IsSegmentOf, Spawns, number_of_segment}
 use Rattle.determinism_laws.proofs.RankOrder.{same_child}

@@ -7,16 +7,16 @@ use Rattle.twe_base.specs.declared.place.Place.{Place}
 use Rattle.twe_base.specs.Limits.{Bounds}
 use Rattle.effect_sets.specs.declared.effects.Summary.{Summary}
 use Rattle.twe_program.specs.Program.{Program}
-use Rattle.seg_exec.specs.declared.frame.Frame.{Frame}
-use Rattle.seg_exec.specs.declared.frame.Next.{Next}
-use Rattle.seg_exec.specs.declared.frame.Next.TheVariants.{Go, Get, Join, Closing, Ended}
-use Rattle.seg_exec.specs.declared.stop.Stop.{Stop}
-use Rattle.seg_exec.specs.declared.stop.Stop.TheVariants as stops
-use Rattle.seg_exec.specs.Entry.{entry_frame}
-use Rattle.twe_machine.specs.declared.state.TaskRow.{TaskRow}
-use Rattle.twe_machine.specs.Changes.{asked_by}
-use Rattle.twe_machine.specs.Moves.{going_row, joined_child, making_frame, new_row, parent_of}
-use Rattle.twe_machine.specs.Rows.{row_awaited}
+use Rattle.seg_meaning.specs.declared.frame.Frame.{Frame}
+use Rattle.seg_meaning.specs.declared.frame.Next.{Next}
+use Rattle.seg_meaning.specs.declared.frame.Next.TheVariants.{Go, Get, Join, Closing, Ended}
+use Rattle.seg_meaning.specs.declared.stop.Stop.{Stop}
+use Rattle.seg_meaning.specs.declared.stop.Stop.TheVariants as stops
+use Rattle.seg_meaning.specs.Entry.{entry_frame}
+use Rattle.machine_state.specs.declared.state.TaskRow.{TaskRow}
+use Rattle.machine_state.specs.Changes.{asked_by}
+use Rattle.machine_state.specs.Moves.{going_row, joined_child, making_frame, new_row, parent_of}
+use Rattle.machine_state.specs.Rows.{row_awaited}
 use Rattle.determinism_laws.specs.numbering.Played.{IsInjective}
 use Rattle.determinism_laws.specs.numbering.Renumbering.{Numbering, SameNumbersIn, frame_renumbered, futures_renumbered, next_renumbered, stop_renumbered}
 use Rattle.determinism_laws.proofs.numbering.BetweenSegments.{entry_renumbered, made_renumbered, numberings_agree}

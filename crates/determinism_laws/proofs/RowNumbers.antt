@@ -8,21 +8,21 @@ use Rattle.twe_base.specs.Limits.{Bounds}
 use Rattle.wait_graph.specs.declared.tasks.Link.{Link}
 use Rattle.wait_graph.specs.Link.{link_of}
 use Rattle.twe_program.specs.Program.{Program}
-use Rattle.seg_exec.specs.declared.frame.Frame.{Frame}
-use Rattle.seg_exec.specs.declared.frame.Next.{Next}
-use Rattle.seg_exec.specs.declared.frame.Next.TheVariants.{Go, Get, Join, Closing, Ended}
+use Rattle.seg_meaning.specs.declared.frame.Frame.{Frame}
+use Rattle.seg_meaning.specs.declared.frame.Next.{Next}
+use Rattle.seg_meaning.specs.declared.frame.Next.TheVariants.{Go, Get, Join, Closing, Ended}
 use Rattle.isolation_laws.proofs.rows.LinksOfRows.{done_row, link_there}
-use Rattle.twe_machine.specs.declared.state.State.{State}
-use Rattle.twe_machine.specs.declared.state.TaskRow.{TaskRow}
-use Rattle.twe_machine.specs.declared.state.TaskStatus.TheVariants.{Done}
-use Rattle.twe_machine.specs.Changes.{next_segment}
-use Rattle.twe_machine.specs.Legal.{MayRun}
-use Rattle.twe_machine.specs.Moves.{joined_child}
-use Rattle.twe_machine.specs.Rows.{HasStatus, IsRow, row_awaited}
-use Rattle.twe_machine.proofs.lists.Members.{contains_in}
-use Rattle.twe_machine.proofs.standing.Halfway.{halfway, left_stands}
-use Rattle.twe_machine.proofs.standing.Standing.{FrameStands, Stands}
-use Rattle.twe_machine.proofs.weight.JoinedWeight.{length_joined}
+use Rattle.machine_state.specs.declared.state.State.{State}
+use Rattle.machine_state.specs.declared.state.TaskRow.{TaskRow}
+use Rattle.machine_state.specs.declared.state.TaskStatus.TheVariants.{Done}
+use Rattle.machine_state.specs.Changes.{next_segment}
+use Rattle.machine_state.specs.Legal.{MayRun}
+use Rattle.machine_state.specs.Moves.{joined_child}
+use Rattle.machine_state.specs.Rows.{HasStatus, IsRow, row_awaited}
+use Rattle.machine_state.proofs.lists.Members.{contains_in}
+use Rattle.machine_state.proofs.standing.Halfway.{halfway, left_stands}
+use Rattle.machine_state.proofs.standing.Standing.{FrameStands, Stands}
+use Rattle.machine_state.proofs.weight.JoinedWeight.{length_joined}
 use Rattle.determinism_laws.proofs.MovedRows.{child_joined}
 use Rattle.determinism_laws.proofs.RenumberedRows.{NumbersBelow}
 

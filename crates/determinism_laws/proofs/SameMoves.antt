@@ -10,25 +10,25 @@ use Rattle.wait_graph.specs.Link.{link_of}
 use Rattle.wait_graph.specs.Waiting.{WaitsFor}
 use Rattle.twe_program.specs.Program.{Program}
 use Rattle.twe_program.specs.WellFormed.{IsWellFormed}
-use Rattle.seg_exec.specs.declared.frame.Frame.{Frame}
-use Rattle.seg_exec.specs.declared.stop.Stop.{Stop}
-use Rattle.seg_exec.specs.declared.stop.Stop.TheVariants as stops
-use Rattle.seg_exec.specs.Giving.{given}
-use Rattle.seg_exec.specs.Segment.{Stopped, segment}
+use Rattle.seg_meaning.specs.declared.frame.Frame.{Frame}
+use Rattle.seg_meaning.specs.declared.stop.Stop.{Stop}
+use Rattle.seg_meaning.specs.declared.stop.Stop.TheVariants as stops
+use Rattle.seg_meaning.specs.Giving.{given}
+use Rattle.seg_meaning.specs.Segment.{Stopped, segment}
 use Rattle.isolation_laws.proofs.rows.LinksOfRows.{link_not_there, link_there}
-use Rattle.twe_machine.specs.declared.state.State.{State}
-use Rattle.twe_machine.specs.declared.state.TaskRow.{TaskRow}
-use Rattle.twe_machine.specs.declared.state.TaskStatus.TheVariants.{Enabled}
-use Rattle.twe_machine.specs.Changes.{asked_by, next_segment}
-use Rattle.twe_machine.specs.Legal.{MayRun}
-use Rattle.twe_machine.specs.Moves.{awaited_value, ready_frame, result_by_kind, value_of}
-use Rattle.twe_machine.specs.Rows.{IsRow, row_awaited}
-use Rattle.twe_machine.specs.Runs.{IsReached}
-use Rattle.twe_machine.proofs.lists.Places.{below_there, got_one}
-use Rattle.twe_machine.proofs.segment_laws.BeingReady.{ready_given}
-use Rattle.twe_machine.proofs.segment_laws.Following.{makes_follow}
-use Rattle.twe_machine.proofs.standing.ReachedStands.{reached_stands}
-use Rattle.twe_machine.proofs.standing.Standing.{Stands}
+use Rattle.machine_state.specs.declared.state.State.{State}
+use Rattle.machine_state.specs.declared.state.TaskRow.{TaskRow}
+use Rattle.machine_state.specs.declared.state.TaskStatus.TheVariants.{Enabled}
+use Rattle.machine_state.specs.Changes.{asked_by, next_segment}
+use Rattle.machine_state.specs.Legal.{MayRun}
+use Rattle.machine_state.specs.Moves.{awaited_value, ready_frame, result_by_kind, value_of}
+use Rattle.machine_state.specs.Rows.{IsRow, row_awaited}
+use Rattle.machine_state.specs.Runs.{IsReached}
+use Rattle.machine_state.proofs.lists.Places.{below_there, got_one}
+use Rattle.machine_state.proofs.segment_laws.BeingReady.{ready_given}
+use Rattle.machine_state.proofs.segment_laws.Following.{makes_follow}
+use Rattle.machine_state.proofs.standing.ReachedStands.{reached_stands}
+use Rattle.machine_state.proofs.standing.Standing.{Stands}
 use Rattle.determinism_laws.specs.numbering.Played.{IsInjective}
 use Rattle.determinism_laws.specs.numbering.Renumbering.{Numbering, frame_renumbered, stopped_renumbered}
 use Rattle.determinism_laws.proofs.numbering.BetweenSegments.{given_renumbered}

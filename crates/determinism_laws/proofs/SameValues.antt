@@ -7,10 +7,10 @@ use Rattle.std.proofs.lemmas.Bool.{cases_eq}
 use Rattle.effect_sets.specs.Access.{Conflict}
 use Rattle.effect_check.proofs.Members.{IsIn, contains-in, in-contains, in-list_any, list_any-in}
 use Rattle.twe_program.specs.Program.{Program}
-use Rattle.seg_exec.specs.Access.{Access, Agrees, Prints, Reads, Writes, after, value_in}
+use Rattle.seg_meaning.specs.Access.{Access, Agrees, Prints, Reads, Writes, after, value_in}
 use Rattle.isolation_laws.specs.soundness.CellPaths.{path_of_cell}
 use Rattle.isolation_laws.specs.soundness.DeclaredNow.{access_of}
-use Rattle.twe_machine.proofs.lists.Places.{set_other}
+use Rattle.machine_state.proofs.lists.Places.{set_other}
 use Rattle.determinism_laws.specs.Orders.{AgreeOn, EachStandsOnce, FindSameValues, HaveSameWriters, LeaveSameCells, PrecedesIn, PrintAlike, SegmentAccesses, SegmentsConflict, accesses_cell, after_all, is_access_of, is_print, is_write_of, prints, writes}
 use Rattle.determinism_laws.proofs.ListOrders.{agreed_back, front_precedes, once_front, precedes_front, precedes_in_front, precedes_of_front, same_filtered, second_in}
 

@@ -8,15 +8,15 @@ use Rattle.seg_journal.specs.declared.journal.Entry.{Entry}
 use Rattle.twe_base.specs.Limits.{Bounds}
 use Rattle.twe_program.specs.Program.{Program}
 use Rattle.twe_program.specs.WellFormed.{IsWellFormed}
-use Rattle.twe_machine.specs.declared.state.State.{State}
-use Rattle.twe_machine.specs.declared.state.TaskRow.{TaskRow}
-use Rattle.twe_machine.specs.Moves.{move_result, start_of}
-use Rattle.twe_machine.specs.Rows.{IsRow}
-use Rattle.twe_machine.specs.Runs.{Legal, LegalFrom, replayed, state_after}
-use Rattle.twe_machine.proofs.standing.LaterStates.{replayed_later}
-use Rattle.twe_machine.proofs.lists.Places.{below_there, got_one}
-use Rattle.twe_machine.proofs.standing.ReachedStands.{linked_of, start_stands, taken_stands}
-use Rattle.twe_machine.proofs.standing.Standing.{Stands}
+use Rattle.machine_state.specs.declared.state.State.{State}
+use Rattle.machine_state.specs.declared.state.TaskRow.{TaskRow}
+use Rattle.machine_state.specs.Moves.{move_result, start_of}
+use Rattle.machine_state.specs.Rows.{IsRow}
+use Rattle.machine_state.specs.Runs.{Legal, LegalFrom, replayed, state_after}
+use Rattle.machine_state.proofs.standing.LaterStates.{replayed_later}
+use Rattle.machine_state.proofs.lists.Places.{below_there, got_one}
+use Rattle.machine_state.proofs.standing.ReachedStands.{linked_of, start_stands, taken_stands}
+use Rattle.machine_state.proofs.standing.Standing.{Stands}
 use Rattle.determinism_laws.specs.Ranks.{IsBelow}
 use Rattle.determinism_laws.specs.Segments.{IsSegmentOf, Spawns, number_of_segment, state_before}
 use Rattle.determinism_laws.proofs.JournalPlaces.{later_end}

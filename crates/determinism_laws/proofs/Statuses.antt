@@ -18,21 +18,21 @@ use Rattle.seg_journal.specs.declared.moves.Kind.TheVariants.{Admit, Run}
 use Rattle.wait_graph.specs.Link.{link_of}
 use Rattle.twe_program.specs.Program.{Program}
 use Rattle.twe_program.specs.WellFormed.{IsWellFormed}
-use Rattle.seg_exec.specs.declared.frame.Frame.{Frame}
-use Rattle.seg_exec.specs.declared.stop.Stop.{Stop}
-use Rattle.seg_exec.specs.declared.stop.Stop.TheVariants as stops
-use Rattle.twe_machine.specs.declared.state.State.{State}
-use Rattle.twe_machine.specs.declared.state.TaskRow.{TaskRow}
-use Rattle.twe_machine.specs.declared.state.TaskStatus.{TaskStatus}
-use Rattle.twe_machine.specs.declared.state.TaskStatus.TheVariants.{Done, Faulted, Made}
-use Rattle.twe_machine.specs.Legal.{MayTake}
-use Rattle.twe_machine.specs.Moves.{admitted, done_row, faulted_row, going_row, joined_child, making_frame, new_row, parent_of, ran, result_by_kind, state_after_asking, state_after_fault, state_after_join, state_after_make, stop_result, stopped_frame}
-use Rattle.twe_machine.specs.Rows.{HasStatus, IsRow}
-use Rattle.twe_machine.specs.Runs.{Legal, state_after}
-use Rattle.twe_machine.proofs.standing.Halfway.{halfway}
-use Rattle.twe_machine.proofs.tasks.OtherRows.{row_after}
-use Rattle.twe_machine.proofs.lists.Places.{got_one, put_before, set_same}
-use Rattle.twe_machine.proofs.standing.Standing.{Stands}
+use Rattle.seg_meaning.specs.declared.frame.Frame.{Frame}
+use Rattle.seg_meaning.specs.declared.stop.Stop.{Stop}
+use Rattle.seg_meaning.specs.declared.stop.Stop.TheVariants as stops
+use Rattle.machine_state.specs.declared.state.State.{State}
+use Rattle.machine_state.specs.declared.state.TaskRow.{TaskRow}
+use Rattle.machine_state.specs.declared.state.TaskStatus.{TaskStatus}
+use Rattle.machine_state.specs.declared.state.TaskStatus.TheVariants.{Done, Faulted, Made}
+use Rattle.machine_state.specs.Legal.{MayTake}
+use Rattle.machine_state.specs.Moves.{admitted, done_row, faulted_row, going_row, joined_child, making_frame, new_row, parent_of, ran, result_by_kind, state_after_asking, state_after_fault, state_after_join, state_after_make, stop_result, stopped_frame}
+use Rattle.machine_state.specs.Rows.{HasStatus, IsRow}
+use Rattle.machine_state.specs.Runs.{Legal, state_after}
+use Rattle.machine_state.proofs.standing.Halfway.{halfway}
+use Rattle.machine_state.proofs.tasks.OtherRows.{row_after}
+use Rattle.machine_state.proofs.lists.Places.{got_one, put_before, set_same}
+use Rattle.machine_state.proofs.standing.Standing.{Stands}
 use Rattle.determinism_laws.specs.Execution.{IsNextSegment}
 use Rattle.determinism_laws.specs.Segments.{IsSegmentOf, is_run, number_of_segment, state_before}
 use Rattle.determinism_laws.proofs.JournalPlaces.{stands_at, taken_at}

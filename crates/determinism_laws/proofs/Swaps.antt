@@ -1,8 +1,8 @@
 -- The numbering that exchanges two new tasks.
 use Rattle.std.proofs.Common.{◌≡◌, ◌⊎◌, ◌≤◌, ◌<◌, ◌+◌, ℕ, zero, suc, inl, inr, refl, sym, ap, ◌∙◌, arith}
-use Rattle.seg_exec.specs.declared.stop.Stop.{Stop}
-use Rattle.seg_exec.specs.declared.stop.Stop.TheVariants as stops
-use Rattle.twe_machine.specs.Changes.{asked_by}
+use Rattle.seg_meaning.specs.declared.stop.Stop.{Stop}
+use Rattle.seg_meaning.specs.declared.stop.Stop.TheVariants as stops
+use Rattle.machine_state.specs.Changes.{asked_by}
 use Rattle.determinism_laws.specs.numbering.Renumbering.{Numbering}
 use Rattle.determinism_laws.proofs.Exchanged.{Swaps}
 use Rattle.determinism_laws.proofs.SameMoves.{Exchanges}

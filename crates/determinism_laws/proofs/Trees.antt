@@ -17,20 +17,20 @@ use Rattle.seg_journal.specs.declared.moves.Kind.TheVariants.{Run}
 use Rattle.twe_base.specs.Limits.{Bounds}
 use Rattle.twe_program.specs.Program.{Program}
 use Rattle.twe_program.specs.WellFormed.{IsWellFormed}
-use Rattle.seg_exec.specs.Access.{Access}
+use Rattle.seg_meaning.specs.Access.{Access}
 use Rattle.isolation_laws.specs.soundness.DeclaredNow.{access_of}
 use Rattle.isolation_laws.specs.soundness.KeepsEffects.{KeepsEffects}
-use Rattle.twe_machine.specs.declared.state.State.{State}
-use Rattle.twe_machine.specs.declared.state.TaskRow.{TaskRow}
-use Rattle.twe_machine.specs.declared.state.TaskStatus.TheVariants.{Done, Enabled}
-use Rattle.twe_machine.specs.Changes.{LeavesAlone, made_by}
-use Rattle.twe_machine.specs.Legal.{MayRun, MayTake}
-use Rattle.twe_machine.specs.Moves.{move_result}
-use Rattle.twe_machine.specs.Rows.{IsRow}
-use Rattle.twe_machine.specs.Runs.{Legal}
-use Rattle.twe_machine.proofs.tasks.DoneFirst.{children_joined}
-use Rattle.twe_machine.proofs.tasks.LeftAlone.{moves_leave_alone}
-use Rattle.twe_machine.proofs.lists.Places.{below_there, got_one}
+use Rattle.machine_state.specs.declared.state.State.{State}
+use Rattle.machine_state.specs.declared.state.TaskRow.{TaskRow}
+use Rattle.machine_state.specs.declared.state.TaskStatus.TheVariants.{Done, Enabled}
+use Rattle.machine_state.specs.Changes.{LeavesAlone, made_by}
+use Rattle.machine_state.specs.Legal.{MayRun, MayTake}
+use Rattle.machine_state.specs.Moves.{move_result}
+use Rattle.machine_state.specs.Rows.{IsRow}
+use Rattle.machine_state.specs.Runs.{Legal}
+use Rattle.machine_state.proofs.tasks.DoneFirst.{children_joined}
+use Rattle.machine_state.proofs.tasks.LeftAlone.{moves_leave_alone}
+use Rattle.machine_state.proofs.lists.Places.{below_there, got_one}
 use Rattle.isolation_laws.proofs.effects.Interference.{AllWithin, any-in, in-any}
 use Rattle.isolation_laws.proofs.journals.Invariant.{Kept}
 use Rattle.isolation_laws.proofs.journals.Journals.{reached_kept}

@@ -5,7 +5,7 @@ use Rattle.seg_journal.specs.declared.journal.Entry.{Entry}
 use Rattle.twe_program.specs.Program.{Program}
 use Rattle.twe_program.specs.WellFormed.{IsWellFormed}
 use Rattle.isolation_laws.specs.soundness.KeepsEffects.{KeepsEffects}
-use Rattle.twe_machine.specs.Runs.{Legal}
+use Rattle.machine_state.specs.Runs.{Legal}
 
 -- The journal is one of a run of the program under these limits, whoever made it: it is legal, and the program is well formed and
 -- keeps the rules on effects. Programs of accepted texts do.

@@ -3,9 +3,9 @@ use Rattle.std.specs.Prelude.{◌≡◌, ℕ, Some, IsTrue, slice_get}
 use Rattle.wait_graph.specs.Waiting.{SpawnedBy}
 use Rattle.effect_check.specs.Acts.{is_deterministic}
 use Rattle.twe_program.specs.Program.{Program}
-use Rattle.twe_machine.specs.declared.state.State.{State}
-use Rattle.twe_machine.specs.declared.state.TaskRow.{TaskRow}
-use Rattle.twe_machine.specs.Rows.{IsRow, row_awaited}
+use Rattle.machine_state.specs.declared.state.State.{State}
+use Rattle.machine_state.specs.declared.state.TaskRow.{TaskRow}
+use Rattle.machine_state.specs.Rows.{IsRow, row_awaited}
 
 -- the task of this row is of a deterministic declaration
 abbrev pub IsDeterministic : Program → TaskRow → Type 0

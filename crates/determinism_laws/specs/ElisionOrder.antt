@@ -5,11 +5,11 @@ use Rattle.effect_sets.specs.Access.{AccessInterferesWithSome, Conflict, SomeCov
 use Rattle.seg_journal.specs.declared.journal.Entry.{Entry}
 use Rattle.twe_base.specs.Limits.{Bounds}
 use Rattle.twe_program.specs.Program.{Program}
-use Rattle.seg_exec.specs.Access.{Access}
+use Rattle.seg_meaning.specs.Access.{Access}
 use Rattle.isolation_laws.specs.soundness.DeclaredNow.{access_of}
-use Rattle.twe_machine.specs.declared.state.TaskRow.{TaskRow}
-use Rattle.twe_machine.specs.declared.state.TaskStatus.TheVariants.{Enabled}
-use Rattle.twe_machine.specs.Rows.{HasStatus}
+use Rattle.machine_state.specs.declared.state.TaskRow.{TaskRow}
+use Rattle.machine_state.specs.declared.state.TaskStatus.TheVariants.{Enabled}
+use Rattle.machine_state.specs.Rows.{HasStatus}
 use Rattle.determinism_laws.specs.Ranks.{ComesBefore, HasRank, IsBelow}
 use Rattle.determinism_laws.specs.Segments.{SegmentMakes, state_before}
 

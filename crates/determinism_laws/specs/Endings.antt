@@ -5,11 +5,11 @@ use Rattle.twe_base.specs.declared.fault.FaultKind.{FaultKind}
 use Rattle.twe_base.specs.Limits.{Bounds}
 use Rattle.seg_journal.specs.declared.journal.Entry.{Entry}
 use Rattle.twe_program.specs.Program.{Program}
-use Rattle.twe_machine.specs.declared.ending.Outcome.TheVariants.{AllDone}
-use Rattle.twe_machine.specs.declared.state.FirstFault.{FirstFault}
-use Rattle.twe_machine.specs.declared.state.State.{State}
-use Rattle.twe_machine.specs.Runs.{AllTasksDone, IsOutcome, Legal, LegalFrom, replayed, state_after}
-use Rattle.seq_elide.specs.Elision.{Ending, ends, fails, goes_on, strays}
+use Rattle.machine_state.specs.declared.ending.Outcome.TheVariants.{AllDone}
+use Rattle.machine_state.specs.declared.state.FirstFault.{FirstFault}
+use Rattle.machine_state.specs.declared.state.State.{State}
+use Rattle.machine_state.specs.Runs.{AllTasksDone, IsOutcome, Legal, LegalFrom, replayed, state_after}
+use Rattle.determinism_laws.specs.elision.Elision.{Ending, ends, fails, goes_on, strays}
 use Rattle.determinism_laws.specs.results.Main.{HaveSameResult}
 
 -- Some run of the program under these limits is whole: it ends with all tasks done.

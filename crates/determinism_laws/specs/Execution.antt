@@ -4,10 +4,10 @@ use Rattle.seg_journal.specs.declared.journal.End.TheVariants as entry_ends
 use Rattle.seg_journal.specs.declared.journal.Entry.{Entry}
 use Rattle.twe_base.specs.Limits.{Bounds}
 use Rattle.twe_program.specs.Program.{Program}
-use Rattle.twe_machine.specs.declared.state.TaskRow.{TaskRow}
-use Rattle.twe_machine.specs.declared.state.TaskStatus.TheVariants.{Done, Made}
-use Rattle.twe_machine.specs.Rows.{HasStatus, IsRow}
-use Rattle.twe_machine.specs.Runs.{state_after}
+use Rattle.machine_state.specs.declared.state.TaskRow.{TaskRow}
+use Rattle.machine_state.specs.declared.state.TaskStatus.TheVariants.{Done, Made}
+use Rattle.machine_state.specs.Rows.{HasStatus, IsRow}
+use Rattle.machine_state.specs.Runs.{state_after}
 use Rattle.determinism_laws.specs.Deterministic.{IsDeterministic}
 use Rattle.determinism_laws.specs.Orders.{SegmentAccesses}
 use Rattle.determinism_laws.specs.Ranks.{IsBelow}

@@ -1,12 +1,12 @@
 -- Next segments that other moves do not change.
 use Rattle.std.specs.Prelude.{◌≡◌, ℕ}
 use Rattle.twe_program.specs.Program.{Program}
-use Rattle.seg_exec.specs.Access.{after}
-use Rattle.twe_machine.specs.declared.state.State.{State}
-use Rattle.twe_machine.specs.declared.state.TaskRow.{TaskRow}
-use Rattle.twe_machine.specs.Changes.{next_segment}
-use Rattle.twe_machine.specs.Legal.{MayRun}
-use Rattle.twe_machine.specs.Rows.{IsRow}
+use Rattle.seg_meaning.specs.Access.{after}
+use Rattle.machine_state.specs.declared.state.State.{State}
+use Rattle.machine_state.specs.declared.state.TaskRow.{TaskRow}
+use Rattle.machine_state.specs.Changes.{next_segment}
+use Rattle.machine_state.specs.Legal.{MayRun}
+use Rattle.machine_state.specs.Rows.{IsRow}
 
 -- In the later state task s still has this row and may still run, and its next segment is the one of the earlier state: it
 -- makes the same accesses, with the same values, leaves the same frame and stops in the same way. Its cells are those of the

@@ -13,3 +13,4 @@ pub mod Sequential
 pub mod numbering
 pub mod results
 pub mod theorem
+pub mod elision

@@ -3,7 +3,7 @@ use Rattle.std.specs.Prelude.{◌≡◌, ◌↔◌, ◌⊎◌, ◌==◌, ℕ, �
 use Rattle.std.specs.List.{list_any}
 use Rattle.effect_sets.specs.Access.{Conflict}
 use Rattle.twe_program.specs.Program.{Program}
-use Rattle.seg_exec.specs.Access.{Access, Prints, Reads, Writes, after}
+use Rattle.seg_meaning.specs.Access.{Access, Prints, Reads, Writes, after}
 use Rattle.isolation_laws.specs.soundness.DeclaredNow.{access_of}
 
 -- the first element comes before the second in the list

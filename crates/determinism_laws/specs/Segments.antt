@@ -6,12 +6,12 @@ use Rattle.seg_journal.specs.declared.moves.Kind.{Kind}
 use Rattle.seg_journal.specs.declared.moves.Kind.TheVariants.{Admit, Run}
 use Rattle.twe_base.specs.Limits.{Bounds}
 use Rattle.twe_program.specs.Program.{Program}
-use Rattle.seg_exec.specs.Access.{Access}
-use Rattle.twe_machine.specs.declared.state.State.{State}
-use Rattle.twe_machine.specs.declared.state.TaskRow.{TaskRow}
-use Rattle.twe_machine.specs.Changes.{next_segment}
-use Rattle.twe_machine.specs.Rows.{IsRow}
-use Rattle.twe_machine.specs.Runs.{state_after}
+use Rattle.seg_meaning.specs.Access.{Access}
+use Rattle.machine_state.specs.declared.state.State.{State}
+use Rattle.machine_state.specs.declared.state.TaskRow.{TaskRow}
+use Rattle.machine_state.specs.Changes.{next_segment}
+use Rattle.machine_state.specs.Rows.{IsRow}
+use Rattle.machine_state.specs.Runs.{state_after}
 
 -- the state before the entry at this place
 abbrev pub state_before : Program → Bounds → List Entry → ℕ → State

@@ -5,12 +5,12 @@ use Rattle.effect_sets.specs.Access.{AccessInterferesWithSome}
 use Rattle.seg_journal.specs.declared.journal.Entry.{Entry}
 use Rattle.twe_base.specs.Limits.{Bounds}
 use Rattle.twe_program.specs.Program.{Program}
-use Rattle.seg_exec.specs.Access.{Writes}
+use Rattle.seg_meaning.specs.Access.{Writes}
 use Rattle.isolation_laws.specs.soundness.DeclaredNow.{access_of}
-use Rattle.twe_machine.specs.declared.state.TaskRow.{TaskRow}
-use Rattle.twe_machine.specs.declared.state.TaskStatus.TheVariants.{Enabled}
-use Rattle.twe_machine.specs.Changes.{next_segment}
-use Rattle.twe_machine.specs.Rows.{HasStatus, IsRow}
+use Rattle.machine_state.specs.declared.state.TaskRow.{TaskRow}
+use Rattle.machine_state.specs.declared.state.TaskStatus.TheVariants.{Enabled}
+use Rattle.machine_state.specs.Changes.{next_segment}
+use Rattle.machine_state.specs.Rows.{HasStatus, IsRow}
 use Rattle.determinism_laws.specs.Orders.{EachStandsOnce, PrecedesIn, PrintAlike, SegmentAccesses, accesses_cell, after_all}
 use Rattle.determinism_laws.specs.Ranks.{ComesBefore, HasRank, IsBelow}
 use Rattle.determinism_laws.specs.Segments.{IsSegmentOf, state_before}

@@ -1,11 +1,13 @@
 //! What makes runs deterministic: the segments of a task and of the tasks below it that make conflicting accesses are in
 //! the order in which sequential code would execute them, and no other task meddles with a deterministic one.
 //!
-//! A run is any journal that the machine of `twe_machine` allows. The laws here stand on those of `isolation_laws`.
+//! A run is any journal that `machine_state` allows. The laws here stand on those of `isolation_laws`. `elision` defines the sequential
+//! execution of a task.
 //!
 //! How runs end if `main` is deterministic, and how sequential executions of deterministic declarations end, stands beside it.
 #![tactic(auto)]
 
+pub mod elision;
 mod endings;
 mod executions;
 mod finishing;

@@ -1,11 +1,11 @@
 //! What finished deterministic tasks have given: each its sequential result, and a deterministic `main` that of the program.
 //!
-//! A run is any journal that the machine of `twe_machine` allows. So the laws hold whatever scheduler made it.
+//! A run is any journal that `machine_state` allows. So the laws hold whatever scheduler made it.
 ghost use Rattle.std.specs.Prelude.{◌≤◌, List};
 ghost use Rattle.seg_journal.specs.declared.journal.Entry.{Entry};
 ghost use Rattle.twe_base.specs.Limits.{Bounds};
 ghost use Rattle.twe_program.specs.Program.{Program};
-ghost use Rattle.twe_machine.specs.Runs.{AllTasksDone, state_after};
+ghost use Rattle.machine_state.specs.Runs.{AllTasksDone, state_after};
 ghost use Rattle.determinism_laws.specs.AcceptedRuns.{IsAcceptedRun};
 ghost use Rattle.determinism_laws.specs.results.Main.{HaveSameResult, MainHasItsResult, MainIsDeterministic};
 ghost use Rattle.determinism_laws.specs.results.Results.{DeterministicTasksHaveResults};

@@ -4,7 +4,7 @@ ghost use Rattle.seg_journal.specs.declared.journal.Entry.{Entry};
 ghost use Rattle.twe_base.specs.Limits.{Bounds};
 ghost use Rattle.twe_program.specs.Program.{Program};
 ghost use Rattle.determinism_laws.specs.AcceptedRuns.{IsAcceptedRun};
-ghost use Rattle.determinism_laws.specs.theorem.Steps.{DeterministicTasksElideAsRun, DoneTasksAreElided, DoneTasksElideAsRun, ExecutionsArePlayed};
+ghost use Rattle.determinism_laws.specs.theorem.Steps.{DoneTasksElideByTheirDeclarations, DoneTasksElideInEachNumbering, DoneTasksElideAsRun, ExecutionsArePlayed};
 
 /// In every legal journal, the execution of a deterministic task that is done at the end was played, from each of its
 /// segments on: by the steps that start from the frames of the journal, over its cells, with the values that its tasks have
@@ -21,7 +21,7 @@ pub fn executions_are_played()
 /// with the task's value, and leaves in each cell under the task's effects the value that it has after the entries.
 pub fn done_tasks_are_elided()
     ensures { (p : Program) (lim : Bounds) (journal : List Entry) → IsAcceptedRun p lim journal
-        → DoneTasksAreElided p lim journal }
+        → DoneTasksElideInEachNumbering p lim journal }
 {}
 
 /// The tasks that it made can be numbered so. So the sequential execution of the declaration meets no fault, ends with the
@@ -38,5 +38,5 @@ pub fn done_tasks_elide_as_run()
 /// task is done, and prints the numbers that the task and those below it have printed, in the order of the journal.
 pub fn deterministic_tasks_elide_as_run()
     ensures { (p : Program) (lim : Bounds) (journal : List Entry) → IsAcceptedRun p lim journal
-        → DeterministicTasksElideAsRun p lim journal }
+        → DoneTasksElideByTheirDeclarations p lim journal }
 {}

@@ -2,11 +2,10 @@
 ghost use Rattle.std.specs.Prelude.{◌≡◌, [], IfOk, IfSome};
 ghost use Rattle.opt_engine.specs.Drafts.{IsDraftedOf};
 
-use opt_engine::{Core, Drafted, Verdict, run_draft};
+use opt_engine::{Core, Drafted, RoundName, Verdict, run_draft};
 use std::alloc::Global;
 use twe_base::{Limits, Memory};
 use twe_program::Prog;
-use twe_rounds::RoundName;
 
 /// What a core answered to a draft.
 #[derive(Clone, Copy, Debug, PartialEq, Eq)]

@@ -4,14 +4,13 @@ ghost use Rattle.std.specs.Prelude.{◌≡◌, []};
 ghost use Rattle.opt_engine.specs.Drafts.{IsDraftedOf};
 
 use crate::answers::{Told, answer_if, begin, hand_in, run_draft_of, run_next};
-use opt_engine::{CellValue, Core, Drafted};
+use opt_engine::{CellValue, Core, Drafted, RoundName};
 use std::alloc::Global;
 use std::marker::Brand;
 use std::test::Fail;
 use twe_base::{Limits, Memory};
 use twe_frontend::read_program;
 use twe_program::Prog;
-use twe_rounds::RoundName;
 
 /// While `main` holds `inc` back, it makes 40 of the 4 in the cell.
 pub(crate) const HELD: &[u8] = b"region A;\n\

@@ -3,14 +3,13 @@ ghost use Rattle.std.specs.Prelude.{◌≡◌, []};
 
 use crate::answers::{Told, begin, run_draft_of, run_next};
 use crate::held::follow;
-use opt_engine::Core;
+use opt_engine::{Core, RoundName};
 use std::alloc::Global;
 use std::marker::Brand;
 use std::test::Fail;
 use twe_base::{Limits, Memory};
 use twe_frontend::read_program;
 use twe_program::Prog;
-use twe_rounds::RoundName;
 
 /// While `main` holds `sum` back, it makes 40 of the 4 in the second cell, which `sum` reads last.
 const TWO_READS: &[u8] = b"region A, B;\n\

@@ -2,11 +2,11 @@
 //! back.
 
 use opt_crew::OptCrew;
-use run_gates::MeetGate;
 use std::alloc::Global;
 use std::sync::Wait;
 use std::test::Fail;
 use std::thread::Threads;
+use steal_pool::gates::MeetGate;
 use twe_base::{Ints, Limits};
 use twe_frontend::read_program;
 

@@ -5,14 +5,13 @@ ghost use Rattle.opt_engine.specs.Drafts.{IsDraftedOf};
 
 use crate::answers::{Told, answer_to, begin, has_draft, run_draft_of, run_next};
 use crate::held::HELD;
-use opt_engine::{Core, Drafted};
+use opt_engine::{Core, Drafted, RoundName};
 use std::alloc::Global;
 use std::marker::Brand;
 use std::test::Fail;
 use twe_base::{Limits, Memory};
 use twe_frontend::read_program;
 use twe_program::Prog;
-use twe_rounds::RoundName;
 
 /// What was seen of two drafts of the first segment of `main`.
 #[derive(Clone, Copy, Debug, PartialEq, Eq)]

@@ -11,7 +11,7 @@ use Rattle.region_paths.specs.declared.elements.Elem.TheVariants.{Name, Index, V
 use Rattle.region_paths.specs.Inside.{within, starts_within, inside}
 use Rattle.effect_sets.specs.Covers.{effect_covers}
 use Rattle.effect_infer.specs.declared.needs.need.Need.{Need}
-use Rattle.effect_infer.specs.declared.found.Found.{Found}
+use Rattle.effect_infer.specs.declared.found.FoundNeed.{FoundNeed}
 use Rattle.effect_infer.specs.needs.Needs.{Widens, effect_of}
 use Rattle.effect_infer.specs.Kept.{method_rank, some_cover}
 use Rattle.effect_infer.specs.Spread.{is_no_name, never_meet, are_different, leads_to, elems_never_meet, elems_lead, need_leads, are_spread_out}
@@ -209,7 +209,7 @@ covers-more (a ∷ others) n cover h each short =
           put-back s.0 s.1 s.2 n (covers-more others n (s.0 ++ s.2) parts.1 rest (omega (arith, short, long, same)))
     ])
 
-pub crowded-by : (all : List Found) (found : Found) (needs : List Need) → is_constant_need found.need ≡ true
+pub crowded-by : (all : List FoundNeed) (found : FoundNeed) (needs : List Need) → is_constant_need found.need ≡ true
     → AreWitnesses all found.method (method_rank found.need) needs → 9 ≤ length needs → are_spread_out needs found.need ≡ true → IsCrowded all found
 crowded-by all found needs fixed witnesses enough spread = (
   found.need,

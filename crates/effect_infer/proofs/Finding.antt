@@ -12,13 +12,13 @@ use Rattle.twe_program.specs.declared.program.CellDecl.{CellDecl}
 use Rattle.twe_program.specs.declared.program.Decl.{Decl}
 use Rattle.twe_program.specs.Program.{Program}
 use Rattle.effect_infer.specs.declared.needs.need.Need.{Need}
-use Rattle.effect_infer.specs.declared.needs.need.Step.TheVariants.{Call}
+use Rattle.effect_infer.specs.declared.needs.need.BodyStep.TheVariants.{Call}
 use Rattle.effect_infer.specs.needs.Steps.{steps_in_all}
 use Rattle.effect_infer.specs.needs.Needs.{IsNeed, own, called, HasStep, Widens, effect_of, settled, settled_elem, filled_need}
 use Rattle.effect_infer.proofs.needs.Within.{settled-keeps, fill-keeps}
 use Rattle.effect_infer.proofs.needs.Inside.{covers-map, covers-trans}
 use Rattle.effect_infer.proofs.needs.Relation.{arguments-indexes}
-use Rattle.effect_infer.specs.declared.found.Found.{Found}
+use Rattle.effect_infer.specs.declared.found.FoundNeed.{FoundNeed}
 use Rattle.effect_infer.specs.declared.found.CallSite.{CallSite}
 use Rattle.effect_infer.specs.Gathered.{in_all, starts_in, calls_in, handed}
 use Rattle.effect_infer.specs.Rows.{row, ListsCalls}
@@ -32,13 +32,13 @@ use Rattle.effect_infer.proofs.Constants.{same-need, wider-constant}
 use Rattle.effect_infer.proofs.Gathering.{starts-are, start-is, calls-are, call-is}
 
 -- what is reached when the needs up to this place were handed on
-pub record SpreadsTo (methods : ℕ) (calls : List CallSite) (old : List Found) (at : ℕ) (new : List Found) : Type 0 where
-  pub longer : (more : List Found) × (new ≡ old ++ more)
+pub record SpreadsTo (methods : ℕ) (calls : List CallSite) (old : List FoundNeed) (at : ℕ) (new : List FoundNeed) : Type 0 where
+  pub longer : (more : List FoundNeed) × (new ≡ old ++ more)
   pub only : ComesFrom old calls new
   pub within : at ≤ length new
   pub closed : HandsOnBefore methods calls at new
 
-pub spread-start : (methods : ℕ) (calls : List CallSite) (old : List Found) (from : ℕ) → from ≤ length old → HandsOnBefore methods calls from old
+pub spread-start : (methods : ℕ) (calls : List CallSite) (old : List FoundNeed) (from : ℕ) → from ≤ length old → HandsOnBefore methods calls from old
     → SpreadsTo methods calls old from old
 spread-start methods calls old from inside before = record {
   longer = ([], sym (append-nil old));
@@ -48,13 +48,13 @@ spread-start methods calls old from inside before = record {
 }
 
 -- an element at a number is the same in a longer list
-get-longer : (xs more : List Found) (k : ℕ) (x : Found) → k < length xs → slice_get (xs ++ more) k ≡ Some x → slice_get xs k ≡ Some x
+get-longer : (xs more : List FoundNeed) (k : ℕ) (x : FoundNeed) → k < length xs → slice_get (xs ++ more) k ≡ Some x → slice_get xs k ≡ Some x
 get-longer [] more k x below h = absurd (omega (arith, below))
 get-longer (y ∷ xs) more zero x below h = h
 get-longer (y ∷ xs) more (suc k) x below h = get-longer xs more k x (omega (arith, below)) h
 
 -- past the end there is none
-pub get-none : (xs : List Found) (k : ℕ) → slice_get xs k ≡ None → length xs ≤ k
+pub get-none : (xs : List FoundNeed) (k : ℕ) → slice_get xs k ≡ None → length xs ≤ k
 get-none [] k e = omega arith
 get-none (x ∷ xs) zero e = absurd (cc)
 get-none (x ∷ xs) (suc k) e = let later = get-none xs k e in omega (arith, later)
@@ -67,13 +67,13 @@ at-contains : {X : Type 0} (xs : List X) (k : ℕ) (x : X) → slice_get xs k �
 at-contains xs k x e = (k, slice_get_within xs k x e, get_or_from_slice_get xs k x x e)
 
 -- one need more was handed on
-pub spread-more : (methods : ℕ) (calls : List CallSite) (callers : List (List ℕ)) (old mid new : List Found) (at : ℕ) (found : Found)
+pub spread-more : (methods : ℕ) (calls : List CallSite) (callers : List (List ℕ)) (old mid new : List FoundNeed) (at : ℕ) (found : FoundNeed)
     → ListsCalls methods calls callers → SpreadsTo methods calls old at mid → slice_get mid at ≡ Some found
     → SummaryGrows mid new (IsHandedBy calls (row callers found.method) found.method found.need) → SpreadsTo methods calls old (at + 1) new
 spread-more methods calls callers old mid new at found lists so_far here grows = record {
   longer = (
     so_far.longer.0 ++ grows.longer.0,
-    grows.longer.1 ∙ ap (λ (xs : List Found). xs ++ grows.longer.0) so_far.longer.1 ∙ append_assoc old so_far.longer.0 grows.longer.0,
+    grows.longer.1 ∙ ap (λ (xs : List FoundNeed). xs ++ grows.longer.0) so_far.longer.1 ∙ append_assoc old so_far.longer.0 grows.longer.0,
   );
   only = λ need there. elim (grows.only need there) [
     | inl before ↦ so_far.only need before
@@ -101,13 +101,13 @@ spread-more methods calls callers old mid new at found lists so_far here grows =
         let one : need ≡ found = same_Some need found (sym was ∙ ap (slice_get mid) now ∙ here) in
         let place = contains-at calls call there in
         let listed = lists.all place.0 call place.1 within in
-        let method : call.callee ≡ found.method = same ∙ ap (λ (f : Found). f.method) one in
+        let method : call.callee ≡ found.method = same ∙ ap (λ (f : FoundNeed). f.method) one in
         grows.all (handed call need.need)
-        (listed.0, call, subst (λ m. Contains (row callers m) listed.0) method listed.2, listed.1, (method, ap (λ (f : Found). handed call f.need) one))
+        (listed.0, call, subst (λ m. Contains (row callers m) listed.0) method listed.2, listed.1, (method, ap (λ (f : FoundNeed). handed call f.need) one))
   ];
 }
 
-pub spread-end : (methods : ℕ) (calls : List CallSite) (old new : List Found) (at : ℕ) → length new ≤ at → SpreadsTo methods calls old at new → Spreads methods calls old old new
+pub spread-end : (methods : ℕ) (calls : List CallSite) (old new : List FoundNeed) (at : ℕ) → length new ≤ at → SpreadsTo methods calls old at new → Spreads methods calls old old new
 spread-end methods calls old new at enough s = record {
   longer = s.longer;
   only = s.only;
@@ -118,18 +118,18 @@ spread-end methods calls old new at enough s = record {
 }
 
 -- what is reached from needs that are reached themselves
-reached-from : (starts mid : List Found) (calls : List CallSite) → ComesFrom starts calls mid → (f : Found) → MethodIsReached mid calls f → MethodIsReached starts calls f
+reached-from : (starts mid : List FoundNeed) (calls : List CallSite) → ComesFrom starts calls mid → (f : FoundNeed) → MethodIsReached mid calls f → MethodIsReached starts calls f
 reached-from starts mid calls from f (start need there) = from need there
 reached-from starts mid calls from f (further need call before there same) = further need call (reached-from starts mid calls from need before) there same
 
 -- all is handed on, and then so is what comes before the end of the list that has grown
-pub before-grown : (methods : ℕ) (calls : List CallSite) (old new more : List Found) → new ≡ old ++ more → HandsOnAll methods calls old → HandsOnBefore methods calls (length old) new
+pub before-grown : (methods : ℕ) (calls : List CallSite) (old new more : List FoundNeed) → new ≡ old ++ more → HandsOnAll methods calls old → HandsOnBefore methods calls (length old) new
 before-grown methods calls old new more is all k need call below at there same within =
-    let was = get-longer old more k need below (subst (λ (xs : List Found). slice_get xs k ≡ Some need) is at) in
+    let was = get-longer old more k need below (subst (λ (xs : List FoundNeed). slice_get xs k ≡ Some need) is at) in
     met-grown old new more is (handed call need.need) (all need call (at-contains old k need was) there same within)
 
 -- one need was added to a list of which all is handed on, and was handed on then
-module _ (methods : ℕ) (calls : List CallSite) (old mid new : List Found) (found : Found) (grows : SummaryGrows old mid (λ f. f ≡ found))
+module _ (methods : ℕ) (calls : List CallSite) (old mid new : List FoundNeed) (found : FoundNeed) (grows : SummaryGrows old mid (λ f. f ≡ found))
     (spreads : Spreads methods calls mid mid new) where
   mid-from : ComesFrom (old ++ found ∷ []) calls mid
   mid-from f there = elim (grows.only f there) [
@@ -141,7 +141,7 @@ module _ (methods : ℕ) (calls : List CallSite) (old mid new : List Found) (fou
   start-spreads = record {
     longer = (
       grows.longer.0 ++ spreads.longer.0,
-      spreads.longer.1 ∙ ap (λ (xs : List Found). xs ++ spreads.longer.0) grows.longer.1 ∙ append_assoc old grows.longer.0 spreads.longer.0,
+      spreads.longer.1 ∙ ap (λ (xs : List FoundNeed). xs ++ spreads.longer.0) grows.longer.1 ∙ append_assoc old grows.longer.0 spreads.longer.0,
     );
     only = λ f there. reached-from (old ++ found ∷ []) mid calls mid-from f (spreads.only f there);
     all = spreads.all;
@@ -151,12 +151,12 @@ module _ (methods : ℕ) (calls : List CallSite) (old mid new : List Found) (fou
   start-met = met-grown mid new spreads.longer.0 spreads.longer.1 found (grows.all found refl)
 
 -- the needs at the start so far
-pub record StartsTo (methods : ℕ) (calls : List CallSite) (starts : List Found) (least i : ℕ) (all : List Found) : Type 0 where
+pub record StartsTo (methods : ℕ) (calls : List CallSite) (starts : List FoundNeed) (least i : ℕ) (all : List FoundNeed) : Type 0 where
   pub only : ComesFrom starts calls all
   pub handed_on : HandsOnAll methods calls all
-  pub met : (f : Found) → Contains (take i starts) f → least ≤ method_rank f.need → IsMet all f
+  pub met : (f : FoundNeed) → Contains (take i starts) f → least ≤ method_rank f.need → IsMet all f
 
-pub starts-none : (methods : ℕ) (calls : List CallSite) (starts all : List Found) (least : ℕ) → ComesFrom starts calls all → HandsOnAll methods calls all
+pub starts-none : (methods : ℕ) (calls : List CallSite) (starts all : List FoundNeed) (least : ℕ) → ComesFrom starts calls all → HandsOnAll methods calls all
     → StartsTo methods calls starts least 0 all
 starts-none methods calls starts all least from handed_on = record {
   only = from;
@@ -164,9 +164,9 @@ starts-none methods calls starts all least from handed_on = record {
   met = λ f there rank. absurd (none-taken starts f there);
 }
 
-module _ (methods : ℕ) (calls : List CallSite) (starts : List Found) (least i : ℕ) (old : List Found) (found : Found)
+module _ (methods : ℕ) (calls : List CallSite) (starts : List FoundNeed) (least i : ℕ) (old : List FoundNeed) (found : FoundNeed)
     (so_far : StartsTo methods calls starts least i old) (below : i < length starts) (is : get_or starts i found ≡ found) where
-  pub starts-more : (new : List Found) → Spreads methods calls (old ++ found ∷ []) old new → IsMet new found → StartsTo methods calls starts least (i + 1) new
+  pub starts-more : (new : List FoundNeed) → Spreads methods calls (old ++ found ∷ []) old new → IsMet new found → StartsTo methods calls starts least (i + 1) new
   starts-more new spreads here = record {
     only = λ f there. reached-from starts (old ++ found ∷ []) calls all-from f (spreads.only f there);
     handed_on = spreads.all;
@@ -188,22 +188,22 @@ module _ (methods : ℕ) (calls : List CallSite) (starts : List Found) (least i 
     handed_on = so_far.handed_on;
     met = λ f there rank. elim (taken-cases starts i found f below is there) [
       | inl before ↦ so_far.met f before rank
-      | inr e ↦ absurd (let same : method_rank found.need ≡ method_rank f.need = ap (λ (g : Found). method_rank g.need) e in omega (arith, low, rank, same))
+      | inr e ↦ absurd (let same : method_rank found.need ≡ method_rank f.need = ap (λ (g : FoundNeed). method_rank g.need) e in omega (arith, low, rank, same))
     ];
   }
 
-pub starts-end : (methods : ℕ) (calls : List CallSite) (starts : List Found) (least i : ℕ) (all : List Found) → length starts ≤ i
+pub starts-end : (methods : ℕ) (calls : List CallSite) (starts : List FoundNeed) (least i : ℕ) (all : List FoundNeed) → length starts ≤ i
     → StartsTo methods calls starts least i all → HasSpread methods calls starts least all
 starts-end methods calls starts least i all enough s = record {
   only = s.only;
   handed_on = s.handed_on;
-  met = λ f there rank. s.met f (subst (λ (xs : List Found). Contains xs f) (sym (take_all i starts enough)) there) rank;
+  met = λ f there rank. s.met f (subst (λ (xs : List FoundNeed). Contains xs f) (sym (take_all i starts enough)) there) rank;
 }
 
 -- the same lists, said otherwise
-pub has-spread-of : (m n : ℕ) (xs ys : List CallSite) (fs gs : List Found) (all : List Found) → m ≡ n → xs ≡ ys → fs ≡ gs → HasSpread m xs fs 0 all → HasSpread n ys gs 0 all
+pub has-spread-of : (m n : ℕ) (xs ys : List CallSite) (fs gs : List FoundNeed) (all : List FoundNeed) → m ≡ n → xs ≡ ys → fs ≡ gs → HasSpread m xs fs 0 all → HasSpread n ys gs 0 all
 has-spread-of m n xs ys fs gs all count same first s =
-    subst (λ k. HasSpread k ys gs 0 all) count (subst (λ (zs : List CallSite). HasSpread m zs gs 0 all) same (subst (λ (hs : List Found). HasSpread m xs hs 0 all) first s))
+    subst (λ k. HasSpread k ys gs 0 all) count (subst (λ (zs : List CallSite). HasSpread m zs gs 0 all) same (subst (λ (hs : List FoundNeed). HasSpread m xs hs 0 all) first s))
 
 -- what two lists of methods give that are equal
 pub gives-same : {X : Type 0} (g : List CellDecl → ℕ → Decl → List X) (cells cells' : List CellDecl) (methods methods' : List Decl) → cells ≡ cells' → methods ≡ methods'
@@ -212,15 +212,15 @@ gives-same g cells cells' methods methods' e f =
     ap (λ (cs : List CellDecl). in_all (g cs) 0 methods) e ∙ ap (λ (ds : List Decl). in_all (g cells') 0 ds) f
 
 -- a wider need that is met
-met-narrow : (all : List Found) (m : ℕ) (wide need : Need) → Widens wide need → IsMet all (record { method = m; need = wide }) → IsMet all (record { method = m; need = need })
+met-narrow : (all : List FoundNeed) (m : ℕ) (wide need : Need) → Widens wide need → IsMet all (record { method = m; need = wide }) → IsMet all (record { method = m; need = need })
 met-narrow all m wide need h met = elim met [
   | inl by ↦ inl (by.0, by.1, by.2, covers-trans need (effect_of wide) (effect_of by.0.need) h by.3)
   | inr by ↦ inr (by.0, by.1, covers-trans need (effect_of wide) (effect_of by.0) h by.2, by.3)
 ]
 
 -- from a program's own needs and calls to all that it needs
-module _ (p : Program) (all : List Found) (spreads : HasSpread (length p.methods) (in_all (calls_in p.cells) 0 p.methods) (in_all (starts_in p.cells) 0 p.methods) 0 all) where
-  reached-needed : (f : Found) → MethodIsReached (in_all (starts_in p.cells) 0 p.methods) (in_all (calls_in p.cells) 0 p.methods) f → IsNeed p f.method f.need
+module _ (p : Program) (all : List FoundNeed) (spreads : HasSpread (length p.methods) (in_all (calls_in p.cells) 0 p.methods) (in_all (starts_in p.cells) 0 p.methods) 0 all) where
+  reached-needed : (f : FoundNeed) → MethodIsReached (in_all (starts_in p.cells) 0 p.methods) (in_all (calls_in p.cells) 0 p.methods) f → IsNeed p f.method f.need
   reached-needed f (start g there) =
       let from = starts-are p g there in
       subst (IsNeed p g.method) (sym from.3) (own g.method from.0 from.1 from.2)
@@ -243,7 +243,7 @@ module _ (p : Program) (all : List Found) (spreads : HasSpread (length p.methods
 
   -- what is crowded out of the called method is so of the caller
   module _ (m : ℕ) (decl : Decl) (callee : ℕ) (args : List Elem) (has : HasStep p m decl (Call callee args)) (there : callee < length p.methods) where
-    caller-met : (w : Found) → Contains all w → w.method ≡ callee → is_constant_need w.need ≡ true → IsMet all (record { method = m; need = w.need })
+    caller-met : (w : FoundNeed) → Contains all w → w.method ≡ callee → is_constant_need w.need ≡ true → IsMet all (record { method = m; need = w.need })
     caller-met w found is fixed =
         let call : CallSite = record { callee = callee; caller = m; params = decl.params; args = args } in
         subst (λ (need : Need). IsMet all (record { method = m; need = need })) (same-need decl.params args w.need fixed)

@@ -7,12 +7,12 @@ use Rattle.twe_program.specs.declared.program.Decl.{Decl}
 use Rattle.twe_program.specs.Program.{Program}
 use Rattle.region_paths.specs.declared.elements.Elem.{Elem}
 use Rattle.effect_infer.specs.declared.needs.need.Need.{Need}
-use Rattle.effect_infer.specs.declared.needs.need.Step.{Step}
-use Rattle.effect_infer.specs.declared.needs.need.Step.TheVariants.{Touch, Call}
+use Rattle.effect_infer.specs.declared.needs.need.BodyStep.{BodyStep}
+use Rattle.effect_infer.specs.declared.needs.need.BodyStep.TheVariants.{Touch, Call}
 use Rattle.effect_infer.specs.needs.Steps.{steps_in_all}
 use Rattle.effect_infer.specs.needs.Needs.{HasStep, settled}
 use Rattle.twe_base.proofs.Members.{IsIn, in-left, in-right, in-cases, contains-in, in-contains}
-use Rattle.effect_infer.specs.declared.found.Found.{Found}
+use Rattle.effect_infer.specs.declared.found.FoundNeed.{FoundNeed}
 use Rattle.effect_infer.specs.declared.found.CallSite.{CallSite}
 use Rattle.effect_infer.specs.Gathered.{starts_of, calls_of, in_all, starts_in, calls_in}
 
@@ -39,27 +39,27 @@ module _ {X : Type 0} (g : ℕ → Decl → List X) where
       in-right x (g number d) (in_all g (suc number) decls) (in-all (suc number) decls x k decl e (subst (λ n. IsIn x (g n decl)) same h))
 
 -- what one method gives
-start-in : (m params : ℕ) (steps : List Step) (f : Found) → IsIn f (starts_of m params steps) → (need : Need) × IsIn (Touch need) steps × (f ≡ record { method = m; need = settled params need })
+start-in : (m params : ℕ) (steps : List BodyStep) (f : FoundNeed) → IsIn f (starts_of m params steps) → (need : Need) × IsIn (Touch need) steps × (f ≡ record { method = m; need = settled params need })
 start-in m params [] f h = absurd h
 start-in m params (Touch need ∷ steps) f (inl e) = (need, inl refl, e)
 start-in m params (Touch need ∷ steps) f (inr h) = let found = start-in m params steps f h in (found.0, inr found.1, found.2)
 start-in m params (Call callee args ∷ steps) f h = let found = start-in m params steps f h in (found.0, inr found.1, found.2)
 
-in-start : (m params : ℕ) (steps : List Step) (need : Need) → IsIn (Touch need) steps → IsIn (record { method = m; need = settled params need }) (starts_of m params steps)
+in-start : (m params : ℕ) (steps : List BodyStep) (need : Need) → IsIn (Touch need) steps → IsIn (record { method = m; need = settled params need }) (starts_of m params steps)
 in-start m params [] need h = absurd h
 in-start m params (Touch other ∷ steps) need (inl e) = inl (let same : need ≡ other = cc in ap (λ (n : Need). record { method = m; need = settled params n }) same)
 in-start m params (Touch other ∷ steps) need (inr h) = inr (in-start m params steps need h)
 in-start m params (Call callee args ∷ steps) need (inl e) = absurd (cc)
 in-start m params (Call callee args ∷ steps) need (inr h) = in-start m params steps need h
 
-call-in : (m params : ℕ) (steps : List Step) (c : CallSite) → IsIn c (calls_of m params steps)
+call-in : (m params : ℕ) (steps : List BodyStep) (c : CallSite) → IsIn c (calls_of m params steps)
     → (callee : ℕ) × (args : List Elem) × IsIn (Call callee args) steps × (c ≡ record { callee = callee; caller = m; params = params; args = args })
 call-in m params [] c h = absurd h
 call-in m params (Touch need ∷ steps) c h = let found = call-in m params steps c h in (found.0, found.1, inr found.2, found.3)
 call-in m params (Call callee args ∷ steps) c (inl e) = (callee, args, inl refl, e)
 call-in m params (Call callee args ∷ steps) c (inr h) = let found = call-in m params steps c h in (found.0, found.1, inr found.2, found.3)
 
-in-call : (m params : ℕ) (steps : List Step) (callee : ℕ) (args : List Elem) → IsIn (Call callee args) steps
+in-call : (m params : ℕ) (steps : List BodyStep) (callee : ℕ) (args : List Elem) → IsIn (Call callee args) steps
     → IsIn (record { callee = callee; caller = m; params = params; args = args }) (calls_of m params steps)
 in-call m params [] callee args h = absurd h
 in-call m params (Touch need ∷ steps) callee args (inl e) = absurd (cc)
@@ -72,13 +72,13 @@ in-call m params (Call other others ∷ steps) callee args (inl e) =
 in-call m params (Call other others ∷ steps) callee args (inr h) = inr (in-call m params steps callee args h)
 
 module _ (p : Program) where
-  pub starts-are : (f : Found) → Contains (in_all (starts_in p.cells) 0 p.methods) f → (decl : Decl) × (need : Need) × HasStep p f.method decl (Touch need) × (f.need ≡ settled decl.params need)
+  pub starts-are : (f : FoundNeed) → Contains (in_all (starts_in p.cells) 0 p.methods) f → (decl : Decl) × (need : Need) × HasStep p f.method decl (Touch need) × (f.need ≡ settled decl.params need)
   starts-are f h =
       let one = all-in (starts_in p.cells) 0 p.methods f (contains-in _ _ h) in
       let steps = steps_in_all p.cells one.1.body.block in
       let is = start-in (0 + one.0) one.1.params steps f one.3 in
-      let same : f.method ≡ one.0 = ap (λ (g : Found). g.method) is.2 ∙ zero-plus one.0 in
-      (one.1, is.0, (subst (λ m. slice_get p.methods m ≡ Some one.1) (sym same) one.2, in-contains _ _ is.1), ap (λ (g : Found). g.need) is.2) where
+      let same : f.method ≡ one.0 = ap (λ (g : FoundNeed). g.method) is.2 ∙ zero-plus one.0 in
+      (one.1, is.0, (subst (λ m. slice_get p.methods m ≡ Some one.1) (sym same) one.2, in-contains _ _ is.1), ap (λ (g : FoundNeed). g.need) is.2) where
         zero-plus : (n : ℕ) → 0 + n ≡ n
         zero-plus n = omega arith
 

@@ -10,7 +10,7 @@ use Rattle.effect_infer.specs.declared.needs.need.Need.{Need}
 use Rattle.effect_infer.specs.needs.Needs.{Widens, effect_of}
 use Rattle.effect_infer.proofs.needs.Inside.{covers-refl, covers-trans}
 use Rattle.twe_base.proofs.Members.{contains-in, in-contains, list_any-in, in-list_any}
-use Rattle.effect_infer.specs.declared.found.Found.{Found}
+use Rattle.effect_infer.specs.declared.found.FoundNeed.{FoundNeed}
 use Rattle.effect_infer.specs.Rows.{row, no_rows, with_item}
 use Rattle.effect_infer.specs.Kept.{method_rank, some_cover, AreDistinct, most_kept, is_wanted, KeepsNeeds}
 use Rattle.effect_infer.proofs.Ranks.{rank-most}
@@ -61,8 +61,8 @@ unwanted needs need few h = elim (and_cases (nat_lt (length needs) most_kept) (n
   | inr covered ↦ inr (not-false (some_cover needs need) covered)
 ]
 
-module _ (methods : ℕ) (all : List Found) where
-  pub keeps-start : (IsDone : Found → Type 0) → ((f : Found) → Contains all f → IsDone f → ⊥) → KeepsNeeds methods all (no_rows methods) IsDone
+module _ (methods : ℕ) (all : List FoundNeed) where
+  pub keeps-start : (IsDone : FoundNeed → Type 0) → ((f : FoundNeed) → Contains all f → IsDone f → ⊥) → KeepsNeeds methods all (no_rows methods) IsDone
   keeps-start IsDone none = record {
     long = length-none Need methods;
     found = λ m need c. absurd (empty m need c);
@@ -76,8 +76,8 @@ module _ (methods : ℕ) (all : List Found) where
     empty m need c = let below = (subst (λ (xs : List Need). Contains xs need) (row-none methods m) c).1 in omega (arith, below)
 
   -- more needs are done with, which are covered already, or have no room
-  pub keeps-as : (table : List (List Need)) (IsDone IsMore : Found → Type 0) → KeepsNeeds methods all table IsDone
-      → ((f : Found) → Contains all f → IsMore f → f.method < methods → IsDone f ⊎ ((length (row table f.method) ≡ most_kept) ⊎ (some_cover (row table f.method) f.need ≡ true)))
+  pub keeps-as : (table : List (List Need)) (IsDone IsMore : FoundNeed → Type 0) → KeepsNeeds methods all table IsDone
+      → ((f : FoundNeed) → Contains all f → IsMore f → f.method < methods → IsDone f ⊎ ((length (row table f.method) ≡ most_kept) ⊎ (some_cover (row table f.method) f.need ≡ true)))
       → KeepsNeeds methods all table IsMore
   keeps-as table IsDone IsMore k more = record {
     long = k.long;
@@ -90,9 +90,9 @@ module _ (methods : ℕ) (all : List Found) where
   }
 
   -- a wanted need is kept, if all of higher rank are done with
-  module _ (table : List (List Need)) (IsDone IsMore : Found → Type 0) (k : KeepsNeeds methods all table IsDone) (new : Found) (there : Contains all new) (below : new.method < length table)
-      (wanted : is_wanted (row table new.method) new.need ≡ true) (higher : (f : Found) → method_rank new.need < method_rank f.need → IsDone f)
-      (more : (f : Found) → Contains all f → IsMore f → IsDone f ⊎ (f ≡ new)) where
+  module _ (table : List (List Need)) (IsDone IsMore : FoundNeed → Type 0) (k : KeepsNeeds methods all table IsDone) (new : FoundNeed) (there : Contains all new) (below : new.method < length table)
+      (wanted : is_wanted (row table new.method) new.need ≡ true) (higher : (f : FoundNeed) → method_rank new.need < method_rank f.need → IsDone f)
+      (more : (f : FoundNeed) → Contains all f → IsMore f → IsDone f ⊎ (f ≡ new)) where
     here : row (with_item table new.method new.need) new.method ≡ row table new.method ++ new.need ∷ []
     here = row-here table new.method new.need below
 
@@ -108,7 +108,7 @@ module _ (methods : ℕ) (all : List Found) where
     ]
 
     -- what is of a higher rank than the new one is covered, since all of it is done with, and there was room
-    new-ahead : (other : Found) → Contains all other → other.method ≡ new.method → method_rank new.need < method_rank other.need
+    new-ahead : (other : FoundNeed) → Contains all other → other.method ≡ new.method → method_rank new.need < method_rank other.need
         → some_cover (row table new.method) other.need ≡ true
     new-ahead other found is above =
         let long = k.long in
@@ -122,7 +122,7 @@ module _ (methods : ℕ) (all : List Found) where
         ]
 
     -- nothing that was found covers the new one
-    new-widest : (other : Found) → Contains all other → other.method ≡ new.method → Widens other.need new.need → other.need ≡ new.need
+    new-widest : (other : FoundNeed) → Contains all other → other.method ≡ new.method → Widens other.need new.need → other.need ≡ new.need
     new-widest other found is h =
         let most = rank-most other.need new.need h in
         elim (cases_lt (method_rank new.need) (method_rank other.need)) [
@@ -163,9 +163,9 @@ module _ (methods : ℕ) (all : List Found) where
         let found = cover-found (row table m) need h in
         found-cover (row (with_item table new.method new.need) m) need found.0 (stays table new.method new.need below m found.0 found.1) found.2
 
-    new-cover : (f : Found) → f ≡ new → some_cover (row (with_item table new.method new.need) f.method) f.need ≡ true
+    new-cover : (f : FoundNeed) → f ≡ new → some_cover (row (with_item table new.method new.need) f.method) f.need ≡ true
     new-cover f e =
-        subst (λ (g : Found). some_cover (row (with_item table new.method new.need) g.method) g.need ≡ true) (sym e)
+        subst (λ (g : FoundNeed). some_cover (row (with_item table new.method new.need) g.method) g.need ≡ true) (sym e)
         (found-cover (row (with_item table new.method new.need) new.method) new.need new.need
         (subst (λ xs. Contains xs new.need) (sym (row-here table new.method new.need below)) (Contains-push (row table new.method) new.need)) (covers-refl new.need))
 
@@ -199,14 +199,14 @@ module _ (methods : ℕ) (all : List Found) where
     }
 
   -- the needs of one rank, one after the other
-  abbrev pub DoneUpTo : ℕ → ℕ → Found → Type 0
+  abbrev pub DoneUpTo : ℕ → ℕ → FoundNeed → Type 0
   DoneUpTo this i f = (this < method_rank f.need) ⊎ ((method_rank f.need ≡ this) × Contains (take i all) f)
 
   pub rank-start : (this : ℕ) (table : List (List Need)) → KeepsNeeds methods all table (λ f. this < method_rank f.need) → KeepsNeeds methods all table (DoneUpTo this 0)
   rank-start this table k = keeps-as table (λ f. this < method_rank f.need) (DoneUpTo this 0) k (λ f there done below. elim done [ inl high ↦ inl high | inr low ↦ absurd (none-taken all f low.1) ])
 
-  module _ (this i : ℕ) (table : List (List Need)) (k : KeepsNeeds methods all table (DoneUpTo this i)) (f : Found) (below : i < length all) (is : get_or all i f ≡ f) where
-    done-cases : (g : Found) → DoneUpTo this (i + 1) g → DoneUpTo this i g ⊎ (g ≡ f)
+  module _ (this i : ℕ) (table : List (List Need)) (k : KeepsNeeds methods all table (DoneUpTo this i)) (f : FoundNeed) (below : i < length all) (is : get_or all i f ≡ f) where
+    done-cases : (g : FoundNeed) → DoneUpTo this (i + 1) g → DoneUpTo this i g ⊎ (g ≡ f)
     done-cases g done = elim done [
       | inl high ↦ inl (inl high)
       | inr low ↦ elim (taken-cases all i f g below is low.1) [ inl before ↦ inl (inr (low.0, before)) | inr e ↦ inr (sym e) ]
@@ -218,14 +218,14 @@ module _ (methods : ℕ) (all : List Found) where
       | inl high ↦ inl (inl high)
       | inr low ↦ elim (taken-cases all i f g below is low.1) [
         | inl before ↦ inl (inr (low.0, before))
-        | inr e ↦ absurd (differ (ap (λ (h : Found). method_rank h.need) e ∙ low.0) (subst (λ (h : Found). h.method < methods) (sym e) within))
+        | inr e ↦ absurd (differ (ap (λ (h : FoundNeed). method_rank h.need) e ∙ low.0) (subst (λ (h : FoundNeed). h.method < methods) (sym e) within))
       ]
     ])
 
     pub rank-unwanted : is_wanted (row table f.method) f.need ≡ false → KeepsNeeds methods all table (DoneUpTo this (i + 1))
     rank-unwanted refused = keeps-as table (DoneUpTo this i) (DoneUpTo this (i + 1)) k (λ g there done within. elim (done-cases g done) [
       | inl before ↦ inl before
-      | inr e ↦ inr (subst (λ (h : Found). (length (row table h.method) ≡ most_kept) ⊎ (some_cover (row table h.method) h.need ≡ true)) (sym e)
+      | inr e ↦ inr (subst (λ (h : FoundNeed). (length (row table h.method) ≡ most_kept) ⊎ (some_cover (row table h.method) h.need ≡ true)) (sym e)
           (unwanted (row table f.method) f.need (k.few f.method) refused))
     ])
 
@@ -237,5 +237,5 @@ module _ (methods : ℕ) (all : List Found) where
   pub rank-end : (this i : ℕ) (table : List (List Need)) → length all ≤ i → KeepsNeeds methods all table (DoneUpTo this i) → KeepsNeeds methods all table (λ f. this ≤ method_rank f.need)
   rank-end this i table enough k = keeps-as table (DoneUpTo this i) (λ f. this ≤ method_rank f.need) k (λ f there done below. inl (elim (cases_lt this (method_rank f.need)) [
     | inl high ↦ inl high
-    | inr low ↦ inr (omega (arith, done, low), subst (λ (xs : List Found). Contains xs f) (sym (take_all i all enough)) there)
+    | inr low ↦ inr (omega (arith, done, low), subst (λ (xs : List FoundNeed). Contains xs f) (sym (take_all i all enough)) there)
   ]))

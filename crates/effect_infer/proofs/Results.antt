@@ -19,7 +19,7 @@ use Rattle.effect_infer.proofs.needs.Soundness as sound
 use Rattle.effect_infer.proofs.needs.Leastness as least
 use Rattle.effect_infer.proofs.needs.Staying as staying
 use Rattle.twe_base.proofs.Members.{IsIn, contains-in, in-contains, in-list_any}
-use Rattle.effect_infer.specs.declared.found.Found.{Found}
+use Rattle.effect_infer.specs.declared.found.FoundNeed.{FoundNeed}
 use Rattle.effect_infer.specs.declared.fail.InferFail.{InferFail}
 use Rattle.effect_infer.specs.declared.fail.InferFail.TheVariants.{TooMany, OutOfMemory}
 use Rattle.effect_infer.specs.Rows.{row}
@@ -33,7 +33,7 @@ use Rattle.effect_infer.proofs.Crowding.{left-out, length-without, put-back, spl
 use Rattle.effect_infer.proofs.Keeping.{cover-found, cover-wider}
 
 -- the table of the widest
-module _ (p : Program) (all : List Found) (table : List (List Need)) (found : HasFoundAll p all) (keeps : KeepsNeeds (length p.methods) all table (λ f. Unit {0})) where
+module _ (p : Program) (all : List FoundNeed) (table : List (List Need)) (found : HasFoundAll p all) (keeps : KeepsNeeds (length p.methods) all table (λ f. Unit {0})) where
   -- what covers a need of the table, and is crowded out, is that need
   crowded-same : (m : ℕ) (need other : Need) → Contains (row table m) need → Widens other need → IsCrowded all (record { method = m; need = other }) → other ≡ need
   crowded-same m need other c h crowd = elim (cases_lt (method_rank need) (method_rank crowd.0)) [
@@ -80,7 +80,7 @@ module _ (p : Program) (all : List Found) (table : List (List Need)) (found : Ha
   need-there m need (called n decl callee args inner has needed) = slice_get_within p.methods n decl has.0
 
   -- what was found of a method is covered, if it has few needs in the table
-  found-covered : (m : ℕ) (f : Found) → length (row table m) ≤ max_effects → m < length p.methods → Contains all f → f.method ≡ m → some_cover (row table m) f.need ≡ true
+  found-covered : (m : ℕ) (f : FoundNeed) → length (row table m) ≤ max_effects → m < length p.methods → Contains all f → f.method ≡ m → some_cover (row table m) f.need ≡ true
   found-covered m f few there c is = elim (keeps.all_done f c tt (subst (λ n. n < length p.methods) (sym is) there)) [
     | inl full ↦ absurd (let here = subst (λ n. length (row table n) ≡ most_kept) is full in omega (arith, here, few))
     | inr covered ↦ subst (λ n. some_cover (row table n) f.need ≡ true) is covered
@@ -98,9 +98,9 @@ module _ (p : Program) (all : List Found) (table : List (List Need)) (found : Ha
   widest-table = record { long = keeps.long; only = only-widest; once = keeps.once; covered = all-covered }
 
 -- the same lists, said otherwise
-pub keeps-of : (m n : ℕ) (xs ys : List Found) (table : List (List Need)) (IsDone : Found → Type 0) → m ≡ n → xs ≡ ys → KeepsNeeds m xs table IsDone → KeepsNeeds n ys table IsDone
+pub keeps-of : (m n : ℕ) (xs ys : List FoundNeed) (table : List (List Need)) (IsDone : FoundNeed → Type 0) → m ≡ n → xs ≡ ys → KeepsNeeds m xs table IsDone → KeepsNeeds n ys table IsDone
 keeps-of m n xs ys table IsDone count same k =
-    subst (λ i. KeepsNeeds i ys table IsDone) count (subst (λ (zs : List Found). KeepsNeeds m zs table IsDone) same k)
+    subst (λ i. KeepsNeeds i ys table IsDone) count (subst (λ (zs : List FoundNeed). KeepsNeeds m zs table IsDone) same k)
 
 -- an element of a list that is mapped
 mapped-at : (table : List (List Need)) (m : ℕ) (summary : Summary) → slice_get (map summary_of table) m ≡ Some summary → summary ≡ summary_of (row table m)

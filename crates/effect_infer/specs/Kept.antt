@@ -6,7 +6,7 @@ use Rattle.region_paths.specs.declared.elements.Elem.TheVariants.{Name, Index, V
 use Rattle.effect_sets.specs.Covers.{effect_covers}
 use Rattle.effect_infer.specs.declared.needs.need.Need.{Need}
 use Rattle.effect_infer.specs.needs.Needs.{effect_of, Widens}
-use Rattle.effect_infer.specs.declared.found.Found.{Found}
+use Rattle.effect_infer.specs.declared.found.FoundNeed.{FoundNeed}
 use Rattle.effect_infer.specs.Rows.{row}
 
 -- the element is any index
@@ -43,16 +43,16 @@ abbrev pub is_wanted : List Need → Need → Bool
 is_wanted needs need = nat_lt (length needs) most_kept && not (some_cover needs need)
 
 -- of the needs that were found and are done with, the table has the widest of each method, or too many of them
-pub record KeepsNeeds (methods : ℕ) (all : List Found) (table : List (List Need)) (IsDone : Found → Type 0) : Type 0 where
+pub record KeepsNeeds (methods : ℕ) (all : List FoundNeed) (table : List (List Need)) (IsDone : FoundNeed → Type 0) : Type 0 where
   pub long : length table ≡ methods
   pub found : (m : ℕ) (need : Need) → Contains (row table m) need → Contains all (record { method = m; need = need })
-  pub widest : (m : ℕ) (need : Need) (other : Found) → Contains (row table m) need
+  pub widest : (m : ℕ) (need : Need) (other : FoundNeed) → Contains (row table m) need
       → Contains all other → other.method ≡ m
       → Widens other.need need → other.need ≡ need
-  pub ahead : (m : ℕ) (need : Need) (other : Found) → Contains (row table m) need
+  pub ahead : (m : ℕ) (need : Need) (other : FoundNeed) → Contains (row table m) need
       → Contains all other → other.method ≡ m
       → method_rank need < method_rank other.need → IsTrue (some_cover (row table m) other.need)
   pub once : (m : ℕ) → AreDistinct (row table m)
   pub few : (m : ℕ) → length (row table m) ≤ most_kept
-  pub all_done : (need : Found) → Contains all need → IsDone need → need.method < methods
+  pub all_done : (need : FoundNeed) → Contains all need → IsDone need → need.method < methods
       → (length (row table need.method) ≡ most_kept) ⊎ IsTrue (some_cover (row table need.method) need.need)

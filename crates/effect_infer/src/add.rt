@@ -3,14 +3,14 @@ ghost use Rattle.std.specs.Prelude.{◌≡◌, IsTrue, OnOk};
 ghost use Rattle.effect_infer.specs.Covered.{SummaryGrows, IsCovered};
 
 use crate::crowd::is_crowded;
-use crate::found::{AllFound, Found};
+use crate::found::{AllFound, FoundNeed};
 use crate::index::Index;
 use crate::widen::widens;
 use std::alloc::Global;
 use twe_base::Memory;
 
 /// Whether the need that stands at this place is of the same method and covers the need.
-fn is_covered_at(all: &AllFound, place: Option<usize>, found: &Found) -> bool
+fn is_covered_at(all: &AllFound, place: Option<usize>, found: &FoundNeed) -> bool
     ensures { IsTrue result → IsCovered all.now found.now }
 {
     let Some(place) = place else {
@@ -27,7 +27,7 @@ pub(crate) fn add(
     all: &mut AllFound,
     index: &mut Index,
     alloc: Global,
-    found: Found,
+    found: FoundNeed,
 ) -> Result<(), Memory>
     ensures { OnOk result (SummaryGrows all.old all.new (λ need. need ≡ found)) }
 {

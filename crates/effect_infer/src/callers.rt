@@ -10,10 +10,10 @@ use std::alloc::Global;
 use twe_base::{List, Memory};
 
 /// Places in a list.
-pub(crate) type Places = List<usize>;
+pub(crate) type ListPlaces = List<usize>;
 
 /// For each method the places of its calls.
-pub(crate) type Callers = List<Places>;
+pub(crate) type Callers = List<ListPlaces>;
 
 /// Whether the calls are of the same method, in the same method, and with the same arguments.
 fn are_alike(first: &CallSite, second: &CallSite) -> bool

@@ -3,30 +3,15 @@ ghost use Rattle.std.specs.Prelude.{◌≡◌, IfOk, IfSome, IsTrue, zip};
 ghost use Rattle.std.specs.List.{list_all, list_any};
 ghost use Rattle.effect_infer.specs.Crowded.{AreWitnesses, IsCrowded, IsWitness, is_constant, is_constant_need};
 ghost use Rattle.effect_infer.specs.Spread.{are_different, are_spread_out, elems_lead, elems_never_meet, is_no_name, leads_to, need_leads, never_meet};
-ghost use Rattle.region_paths.specs.Inside.{within};
 
-use crate::found::{AllFound, Found};
+use crate::found::{AllFound, FoundNeed};
 use crate::index::MOST_NOTED;
 use crate::keep::{Widest, rank};
 use crate::needs::Need;
 use crate::widen::copy;
-use region_paths::Elem;
+use region_paths::{Elem, is_within};
 use std::alloc::Global;
 use twe_base::Memory;
-
-/// Whether an element is within another.
-fn is_within(inner: Elem, outer: Elem) -> bool
-    ensures { result ≡ within inner outer }
-{
-    match (inner, outer) {
-        (Elem::Name(n), Elem::Name(m)) => n == m,
-        (Elem::Index(i), Elem::Index(j)) => i == j,
-        (Elem::Var(k), Elem::Var(l)) => k == l,
-        (Elem::Name(_), Elem::AnyIndex) => false,
-        (_, Elem::AnyIndex) => true,
-        _ => false,
-    }
-}
 
 /// Whether the element is an index of any kind.
 fn is_no_name(elem: Elem) -> bool
@@ -188,7 +173,7 @@ pub(crate) fn is_crowded(
     all: &AllFound,
     alloc: Global,
     places: &[usize],
-    found: &Found,
+    found: &FoundNeed,
 ) -> Result<bool, Memory>
     ensures { IfOk result (λ crowded. IsTrue crowded → IsCrowded all.now found.now) }
 {

@@ -6,7 +6,7 @@ use twe_base::List;
 
 /// A need of a method.
 #[derive(Debug, Drop)]
-pub(crate) struct Found {
+pub(crate) struct FoundNeed {
     /// The number of the method.
     pub method: u32,
     /// The need.
@@ -14,7 +14,7 @@ pub(crate) struct Found {
 }
 
 /// Needs in the order in which they were found.
-pub(crate) type AllFound = List<Found>;
+pub(crate) type AllFound = List<FoundNeed>;
 
 /// A call in the body of a method.
 #[derive(Debug, Drop)]

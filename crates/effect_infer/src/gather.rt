@@ -2,8 +2,8 @@
 ghost use Rattle.std.specs.Prelude.{◌≡◌, ◌++◌, ◌<◌, ◌^◌, length, IfOk, OnOk};
 ghost use Rattle.effect_infer.specs.Gathered.{calls_in, calls_of, in_all, starts_in, starts_of};
 
-use crate::found::{AllFound, CallSite, CallSites, Found};
-use crate::needs::{Step, steps_of_body};
+use crate::found::{AllFound, CallSite, CallSites, FoundNeed};
+use crate::needs::{BodyStep, steps_of_body};
 use crate::widen::settle;
 use std::alloc::Global;
 use twe_base::Memory;
@@ -11,7 +11,7 @@ use twe_program::{CellDecl, Decl};
 
 /// What bodies read and write, and which methods they call.
 #[derive(Debug, Drop)]
-pub(crate) struct Gathered {
+pub(crate) struct GatheredBodies {
     /// The needs that bodies have of their own.
     pub starts: AllFound,
     /// The calls in bodies.
@@ -20,22 +20,22 @@ pub(crate) struct Gathered {
 
 /// Adds what these steps of a method read and write, and their calls.
 fn add_steps(
-    gathered: &mut Gathered,
+    gathered: &mut GatheredBodies,
     alloc: Global,
     method: u32,
     params: u32,
-    steps: &[Step],
+    steps: &[BodyStep],
 ) -> Result<(), Memory>
     ensures starts { OnOk result (gathered.new.starts ≡ gathered.old.starts ++ starts_of method params steps.now) }
     ensures calls { OnOk result (gathered.new.calls ≡ gathered.old.calls ++ calls_of method params steps.now) }
 {
     for step in steps {
         match step {
-            Step::Touch(need) => {
+            BodyStep::Touch(need) => {
                 let need = settle(alloc, need, params)?;
-                gathered.starts.push(Found { method, need })?;
+                gathered.starts.push(FoundNeed { method, need })?;
             }
-            Step::Call {
+            BodyStep::Call {
                 method: callee,
                 args,
             } => {
@@ -57,12 +57,12 @@ pub(crate) fn gather(
     alloc: Global,
     cells: &[CellDecl],
     methods: &[Decl],
-) -> Result<Gathered, Memory>
+) -> Result<GatheredBodies, Memory>
     requires { length methods.now < 2 ^ 32 }
     ensures starts { IfOk result (λ gathered. gathered.starts ≡ in_all (starts_in cells.now) 0 methods.now) }
     ensures calls { IfOk result (λ gathered. gathered.calls ≡ in_all (calls_in cells.now) 0 methods.now) }
 {
-    let mut gathered = Gathered {
+    let mut gathered = GatheredBodies {
         starts: AllFound::new(alloc),
         calls: CallSites::new(alloc),
     };

@@ -1,6 +1,6 @@
 //! Where needs may stand among those that were found. An answer is a hint, which its user compares with what stands there.
 
-use crate::found::Found;
+use crate::found::FoundNeed;
 use crate::opened::{Open, count_indexes, has_parameter, opened_parts};
 use prefix_tree::PrefixTree;
 use std::alloc::Global;
@@ -12,7 +12,7 @@ pub(crate) const MOST_NOTED: usize = 9;
 
 /// Needs of a method, by the number of a path.
 #[derive(Clone, Copy, Debug, PartialEq, Eq, PartialOrd, Ord)]
-struct Key {
+struct PathNeeds {
     method: u32,
     path: u32,
     write: bool,
@@ -35,8 +35,8 @@ pub(crate) struct PathNumbers {
 #[derive(Debug, Drop)]
 pub(crate) struct Index {
     paths: PrefixTree,
-    places: BTreeMap<Key, usize>,
-    rows: BTreeMap<Key, usize>,
+    places: BTreeMap<PathNeeds, usize>,
+    rows: BTreeMap<PathNeeds, usize>,
     crowds: List<List<usize>>,
 }
 
@@ -52,13 +52,17 @@ impl Index {
     }
 
     /// The number of the path with these of its indexes replaced.
-    fn path(&mut self, alloc: Global, found: &Found, open: Open) -> Result<u32, Memory> {
+    fn path(&mut self, alloc: Global, found: &FoundNeed, open: Open) -> Result<u32, Memory> {
         let parts = opened_parts(alloc, found.need.elems.as_slice(), open)?;
         self.paths.add_path(parts.as_slice())
     }
 
     /// The numbers of the paths of a need. For a need that stands in the list its own is enough.
-    pub(crate) fn numbers(&mut self, alloc: Global, found: &Found) -> Result<PathNumbers, Memory> {
+    pub(crate) fn numbers(
+        &mut self,
+        alloc: Global,
+        found: &FoundNeed,
+    ) -> Result<PathNumbers, Memory> {
         let own = self.path(alloc, found, Open::Nothing)?;
         let mut numbers = PathNumbers {
             own,
@@ -80,10 +84,10 @@ impl Index {
     }
 
     /// Where a need of the method with this path stands that writes if the need does.
-    fn place_of(&self, found: &Found, path: u32) -> Option<usize> {
+    fn place_of(&self, found: &FoundNeed, path: u32) -> Option<usize> {
         let method = found.method;
         let write = found.need.write;
-        let key = Key {
+        let key = PathNeeds {
             method,
             path,
             write,
@@ -91,7 +95,7 @@ impl Index {
         if let Some(place) = self.places.get(&key) {
             return Some(*place);
         }
-        let written = Key {
+        let written = PathNeeds {
             method,
             path,
             write: true,
@@ -100,7 +104,7 @@ impl Index {
     }
 
     /// Where a need may stand that covers this one.
-    pub(crate) fn covering(&self, found: &Found, numbers: PathNumbers) -> Option<usize> {
+    pub(crate) fn covering(&self, found: &FoundNeed, numbers: PathNumbers) -> Option<usize> {
         for path in [numbers.shape, numbers.last, numbers.before, numbers.own] {
             let place = self.place_of(found, path);
             if place.is_some() {
@@ -111,7 +115,7 @@ impl Index {
     }
 
     /// The places that are noted for this key.
-    fn crowd_of(&self, key: Key) -> &[usize] {
+    fn crowd_of(&self, key: PathNeeds) -> &[usize] {
         match self.rows.get(&key) {
             Some(row) => match self.crowds.get(*row) {
                 Some(places) => places.as_slice(),
@@ -122,11 +126,11 @@ impl Index {
     }
 
     /// Places of needs of the method that may leave no room for this one.
-    pub(crate) fn crowd(&self, found: &Found, numbers: PathNumbers) -> &[usize] {
+    pub(crate) fn crowd(&self, found: &FoundNeed, numbers: PathNumbers) -> &[usize] {
         let method = found.method;
         let write = found.need.write;
         for path in [numbers.last, numbers.before, u32::MAX] {
-            let places = self.crowd_of(Key {
+            let places = self.crowd_of(PathNeeds {
                 method,
                 path,
                 write,
@@ -139,7 +143,7 @@ impl Index {
     }
 
     /// Notes a place for this key, if there is room.
-    fn push(&mut self, alloc: Global, key: Key, place: usize) -> Result<(), Memory> {
+    fn push(&mut self, alloc: Global, key: PathNeeds, place: usize) -> Result<(), Memory> {
         let row = match self.rows.get(&key) {
             Some(row) => *row,
             None => self.crowds.len(),
@@ -162,7 +166,7 @@ impl Index {
     fn note_crowds(
         &mut self,
         alloc: Global,
-        found: &Found,
+        found: &FoundNeed,
         numbers: PathNumbers,
         place: usize,
     ) -> Result<(), Memory> {
@@ -174,7 +178,7 @@ impl Index {
             before,
             shape,
         } = numbers;
-        let key = Key {
+        let key = PathNeeds {
             method,
             path: shape,
             write,
@@ -183,7 +187,7 @@ impl Index {
             let path = u32::MAX;
             self.push(
                 alloc,
-                Key {
+                PathNeeds {
                     method,
                     path,
                     write,
@@ -198,7 +202,7 @@ impl Index {
             if path != own && path != shape {
                 self.push(
                     alloc,
-                    Key {
+                    PathNeeds {
                         method,
                         path,
                         write,
@@ -214,7 +218,7 @@ impl Index {
     pub(crate) fn note(
         &mut self,
         alloc: Global,
-        found: &Found,
+        found: &FoundNeed,
         numbers: PathNumbers,
         place: usize,
     ) -> Result<(), Memory> {
@@ -224,7 +228,7 @@ impl Index {
         let method = found.method;
         let write = found.need.write;
         self.places.insert(
-            Key {
+            PathNeeds {
                 method,
                 path: numbers.own,
                 write,

@@ -1,10 +1,10 @@
 //! Keeps of the needs that were found those that no other covers, at most 9 for each method.
 ghost use Rattle.std.specs.Prelude.{◌≡◌, ◌<◌, ◌≤◌, ◌^◌, length, Contains, IfOk, OnOk};
-ghost use Rattle.effect_infer.specs.declared.found.Found.{Found as Named};
+ghost use Rattle.effect_infer.specs.declared.found.FoundNeed.{FoundNeed as Named};
 ghost use Rattle.effect_infer.specs.Rows.{row};
 ghost use Rattle.effect_infer.specs.Kept.{KeepsNeeds, any_indexes, is_any, is_wanted, method_rank, some_cover};
 
-use crate::found::Found;
+use crate::found::FoundNeed;
 use crate::needs::Need;
 use crate::rows::{no_rows, push_to};
 use crate::widen::{copy, widens};
@@ -66,7 +66,7 @@ fn higher(first: u64, second: u64) -> u64
 }
 
 /// The highest rank of the needs that were found.
-fn top_rank(all: &[Found]) -> u64
+fn top_rank(all: &[FoundNeed]) -> u64
     ensures top { (need : Named) → Contains all.now need → method_rank need.need ≤ result }
     ensures small { result ≤ 2 ^ 63 }
 {
@@ -96,7 +96,7 @@ fn is_wanted(table: &Table, method: usize, need: &Need) -> bool
 }
 
 /// Keeps the needs of this rank, after those of higher ranks.
-fn keep_rank(table: &mut Table, alloc: Global, all: &[Found], this: u64) -> Result<(), Memory>
+fn keep_rank(table: &mut Table, alloc: Global, all: &[FoundNeed], this: u64) -> Result<(), Memory>
     requires { KeepsNeeds (length table.old) all.now table.old (λ need. this < method_rank need.need) }
     ensures { OnOk result (KeepsNeeds (length table.old) all.now table.new (λ need. this ≤ method_rank need.need)) }
 {
@@ -114,7 +114,7 @@ fn keep_rank(table: &mut Table, alloc: Global, all: &[Found], this: u64) -> Resu
 }
 
 /// For each method the needs that no other covers. If there are more than 9, there are 9 of them.
-pub(crate) fn keep_widest(alloc: Global, all: &[Found], methods: usize) -> Result<Table, Memory>
+pub(crate) fn keep_widest(alloc: Global, all: &[FoundNeed], methods: usize) -> Result<Table, Memory>
     ensures { IfOk result (λ table. KeepsNeeds methods all.now table (λ need. Unit {0})) }
 {
     let top = top_rank(all);

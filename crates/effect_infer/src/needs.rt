@@ -13,4 +13,4 @@ pub use laws::{
     accepted_choices_cover_needs, covering_choices_are_accepted,
     covering_choices_keep_programs_accepted,
 };
-pub use need::{Need, Step, Steps};
+pub use need::{BodyStep, Need, Steps};

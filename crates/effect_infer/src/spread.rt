@@ -5,7 +5,7 @@ ghost use Rattle.effect_infer.specs.Covered.{ComesFrom, HandsOnAll, HandsOnBefor
 
 use crate::add::add;
 use crate::callers::{Callers, callers_of};
-use crate::found::{AllFound, CallSite, CallSites, Found};
+use crate::found::{AllFound, CallSite, CallSites, FoundNeed};
 use crate::index::Index;
 use crate::keep::rank;
 use crate::needs::Need;
@@ -30,7 +30,7 @@ fn hand_on(
     let filled = fill(alloc, need, call.args.as_slice())?;
     let need = settle(alloc, &filled, call.params)?;
     let method = call.caller;
-    add(all, index, alloc, Found { method, need })
+    add(all, index, alloc, FoundNeed { method, need })
 }
 
 /// Hands a need of a method on by the calls that stand at these places.
@@ -103,7 +103,7 @@ fn start(
     alloc: Global,
     calls: &CallSites,
     callers: &Callers,
-    found: &Found,
+    found: &FoundNeed,
 ) -> Result<(), Memory>
     requires before { HandsOnAll (length callers.now) calls.now all.old }
     requires listed { ListsCalls (length callers.now) calls.now callers.now }
@@ -113,7 +113,7 @@ fn start(
     let from = all.len();
     let need = copy(alloc, &found.need)?;
     let method = found.method;
-    add(all, index, alloc, Found { method, need })?;
+    add(all, index, alloc, FoundNeed { method, need })?;
     hand_on_from(all, index, alloc, calls, callers, from)
 }
 
@@ -124,7 +124,7 @@ fn start_from(
     alloc: Global,
     calls: &CallSites,
     callers: &Callers,
-    starts: &[Found],
+    starts: &[FoundNeed],
     least: u64,
 ) -> Result<(), Memory>
     requires reached { ComesFrom starts.now calls.now all.old }
@@ -144,7 +144,7 @@ fn start_from(
 /// handed on.
 pub(crate) fn spread(
     alloc: Global,
-    starts: &[Found],
+    starts: &[FoundNeed],
     calls: &CallSites,
     methods: usize,
 ) -> Result<AllFound, Memory>

@@ -9,7 +9,7 @@ ghost use Rattle.effect_meeting.specs.inner.Columns.{all_plain, is_plain};
 use crate::aligned::known;
 use crate::meeting::meeting_along;
 use crate::met::Met;
-use crate::values::Values;
+use crate::values::ParamValues;
 use region_paths::{Elem, Elems, Path};
 use std::alloc::{AllocError, Global};
 use twe_base::{List, Memory};
@@ -23,7 +23,7 @@ pub struct CellMet {
     /// Its indexes, which are literal: none of a single cell, one in an array, two in a grid.
     pub indexes: Elems,
     /// The values for which they do of the parameters that stand in the paths.
-    pub values: Values,
+    pub values: ParamValues,
 }
 
 /// What the indexes of a cell are below.

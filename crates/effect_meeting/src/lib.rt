@@ -27,4 +27,4 @@ pub use meeting::meeting_path;
 pub use met::Met;
 pub use path_meeting::elem_equality;
 pub use solve::{solution, solved_value};
-pub use values::{ParamValue, Values};
+pub use values::{ParamValue, ParamValues};

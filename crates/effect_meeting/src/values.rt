@@ -20,7 +20,7 @@ pub struct ParamValue {
 }
 
 /// Parameters with their values, in the order of the parameters.
-pub type Values = List<ParamValue>;
+pub type ParamValues = List<ParamValue>;
 
 /// Whether the element is this variable.
 fn is_variable(number: u32, elem: Elem) -> bool
@@ -56,7 +56,7 @@ fn either_has_variable(number: u32, first: &Path, second: &Path) -> bool
 }
 
 /// Appends a parameter with its value, if it is to be told.
-fn push_if(values: &mut Values, told: bool, given: ParamValue) -> Result<(), Memory>
+fn push_if(values: &mut ParamValues, told: bool, given: ParamValue) -> Result<(), Memory>
     ensures { OnOk result (values.new ≡ values.old ++ (if told then given ∷ [] else [])) }
 {
     if told { values.push(given) } else { Ok(()) }
@@ -69,10 +69,10 @@ pub(crate) fn values_by(
     first: &Path,
     second: &Path,
     steps: &[Equality],
-) -> Result<Values, Memory>
+) -> Result<ParamValues, Memory>
     ensures { IfOk result (λ values. values ≡ values_in shared first.now second.now (first_by steps.now)) }
 {
-    let mut values = Values::new(alloc);
+    let mut values = ParamValues::new(alloc);
     for param in 0..shared {
         let told = either_has_variable(param, first, second);
         let value = solved_value(steps, Term::First(param));

@@ -1,2 +1,4 @@
 pub mod Page
 pub mod RunPage
+pub mod names
+pub mod places

@@ -4,9 +4,9 @@ use Rattle.std.specs.List.{flat_map}
 use Rattle.twe_base.specs.declared.place.Place.{Place}
 use Rattle.twe_frontend.specs.declared.refusal.Refusal.{Refusal}
 use Rattle.twe_report.specs.Texts.{line, place_text, rule_text}
-use Rattle.place_notes.specs.Excerpt.{excerpt_text, shown}
-use Rattle.place_notes.specs.declared.note.Explanation.{Explanation}
-use Rattle.place_notes.specs.declared.note.Note.{Note}
+use Rattle.explain_pages.specs.places.Excerpt.{excerpt_text, shown}
+use Rattle.explain_pages.specs.declared.places.note.Explanation.{Explanation}
+use Rattle.explain_pages.specs.declared.places.note.Note.{Note}
 use Rattle.explain_pages.specs.declared.wanted.Wanted.{Wanted}
 
 -- the answer of `twe check`, without the end of its line

@@ -4,8 +4,8 @@ use Rattle.std.specs.List.{flat_map}
 use Rattle.twe_base.specs.declared.place.Place.{Place}
 use Rattle.twe_report.specs.Texts.{line}
 use Rattle.explain_pages.specs.Page.{excerpts, remark_lines, spot_lines, spot_text}
-use Rattle.place_notes.specs.declared.note.Explanation.{Explanation}
-use Rattle.place_notes.specs.declared.note.Note.{Note}
+use Rattle.explain_pages.specs.declared.places.note.Explanation.{Explanation}
+use Rattle.explain_pages.specs.declared.places.note.Note.{Note}
 use Rattle.explain_pages.specs.declared.wanted.Wanted.{Wanted}
 
 -- a line without its end

@@ -1,16 +1,15 @@
 //! What is written of a refusal.
 ghost use Rattle.std.specs.Prelude.{◌≡◌, ◌++◌, IfOk, OnOk};
 ghost use Rattle.std.specs.List.{flat_map};
-ghost use Rattle.twe_report.specs.Texts.{line, place_text};
+ghost use Rattle.twe_report.specs.Texts.{line};
 ghost use Rattle.explain_pages.specs.Page.{check_text, excerpts, answer_line, lines_text, name_text, note_line, page_text, refused_text, remark_lines, spot_line, spot_lines, spot_text};
 
+use crate::places::{Explanation, Note, push_excerpt, push_shown};
 use crate::wanted::Wanted;
-use itoa::Buffer;
-use place_notes::{Explanation, Note, push_excerpt, push_shown};
 use std::alloc::Global;
 use twe_base::{Bytes, Memory, Place};
 use twe_frontend::Refusal;
-use twe_report::refusal_text;
+use twe_report::{push_place, refusal_text};
 
 /// The answer of `twe check`, without the end of its line.
 fn check_text(alloc: Global, refusal: Refusal) -> Result<Bytes, Memory>
@@ -31,15 +30,6 @@ fn answer_line(alloc: Global, refusal: Refusal, headline: &[u8]) -> Result<Bytes
     text.push_all(headline)?;
     text.push(b'\n')?;
     Ok(text)
-}
-
-/// Appends a place, as `6:14`.
-fn push_place(text: &mut Bytes, place: Place) -> Result<(), Memory>
-    ensures { OnOk result (text.new ≡ text.old ++ place_text place) }
-{
-    text.push_all(Buffer::new().format(place.line).as_bytes())?;
-    text.push(b':')?;
-    text.push_all(Buffer::new().format(place.col).as_bytes())
 }
 
 /// Appends the name of the text and a colon, if it has a name.

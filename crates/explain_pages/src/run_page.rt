@@ -3,8 +3,8 @@ ghost use Rattle.std.specs.Prelude.{◌≡◌, ◌++◌, IfOk, OnOk};
 ghost use Rattle.explain_pages.specs.RunPage.{first_spot, first_spot_line, run_line, run_lines, run_page, run_text, without_end};
 
 use crate::page::{push_excerpts, push_remark_lines, push_remarks, push_spot, push_spot_lines};
+use crate::places::{Explanation, Note};
 use crate::wanted::Wanted;
-use place_notes::{Explanation, Note};
 use std::alloc::Global;
 use twe_base::{Bytes, Memory, Place};
 

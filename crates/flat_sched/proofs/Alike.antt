@@ -6,11 +6,11 @@ use Rattle.region_paths.specs.Concrete.{ConcretePath}
 use Rattle.effect_sets.specs.declared.effects.Effect.{Effect}
 use Rattle.effect_sets.specs.Covers.{EffectWithin}
 use Rattle.effect_sets.specs.Interference.{Interferes}
-use Rattle.twe_machine.specs.declared.state.State.{State}
-use Rattle.twe_machine.specs.declared.state.TaskRow.{TaskRow}
-use Rattle.twe_machine.specs.Legal.{Interfere}
-use Rattle.twe_machine.specs.Rows.{IsRow}
-use Rattle.twe_machine.proofs.lists.Places.{got_one}
+use Rattle.machine_state.specs.declared.state.State.{State}
+use Rattle.machine_state.specs.declared.state.TaskRow.{TaskRow}
+use Rattle.machine_state.specs.Legal.{Interfere}
+use Rattle.machine_state.specs.Rows.{IsRow}
+use Rattle.machine_state.proofs.lists.Places.{got_one}
 use Rattle.flat_sched.specs.declared.groups.Group.{Group}
 use Rattle.flat_sched.specs.inner.Groups.{AreAlike, AreGroups, HasGroup, IsKey, IsMember, MayWriteAt, WritesPath}
 use Rattle.flat_sched.specs.inner.Lists.{IsReady}

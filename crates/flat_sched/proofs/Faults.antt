@@ -12,15 +12,15 @@ use Rattle.twe_base.specs.Limits.{Bounds}
 use Rattle.twe_base.specs.declared.place.Place.{Place}
 use Rattle.twe_program.specs.Program.{Program}
 use Rattle.wait_graph.specs.Link.{link_of}
-use Rattle.seg_exec.specs.declared.frame.Frame.{Frame}
-use Rattle.seg_exec.specs.declared.stop.Stop.{Stop}
-use Rattle.seg_exec.specs.declared.stop.Stop.TheVariants as stops
-use Rattle.seg_exec.specs.Segment.{segment}
-use Rattle.twe_machine.specs.declared.state.FirstFault.{FirstFault}
-use Rattle.twe_machine.specs.declared.state.State.{State}
-use Rattle.twe_machine.specs.declared.state.TaskRow.{TaskRow}
-use Rattle.twe_machine.specs.Moves.{state_after_asking, state_after_fault, first_fault_of, state_after_make, state_after_join, joined_child, ran, ready_frame, stop_result, stopped_frame, result_by_kind}
-use Rattle.twe_machine.specs.Runs.{is_fault}
+use Rattle.seg_meaning.specs.declared.frame.Frame.{Frame}
+use Rattle.seg_meaning.specs.declared.stop.Stop.{Stop}
+use Rattle.seg_meaning.specs.declared.stop.Stop.TheVariants as stops
+use Rattle.seg_meaning.specs.Segment.{segment}
+use Rattle.machine_state.specs.declared.state.FirstFault.{FirstFault}
+use Rattle.machine_state.specs.declared.state.State.{State}
+use Rattle.machine_state.specs.declared.state.TaskRow.{TaskRow}
+use Rattle.machine_state.specs.Moves.{state_after_asking, state_after_fault, first_fault_of, state_after_make, state_after_join, joined_child, ran, ready_frame, stop_result, stopped_frame, result_by_kind}
+use Rattle.machine_state.specs.Runs.{is_fault}
 
 noted : (earlier : Option FirstFault) (t : ℕ) (kind : FaultKind) (place : Place) → first_fault_of earlier t kind place ≡ None → ⊥
 noted (Some fault) t kind place e = cc

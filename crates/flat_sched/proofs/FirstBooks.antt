@@ -3,17 +3,17 @@ use Rattle.std.proofs.Common.{◌≡◌, inl, ℕ, zero, suc, List, [], Option, 
 use Rattle.twe_base.specs.Limits.{Bounds}
 use Rattle.wait_graph.specs.Waiting.{WaitsFor}
 use Rattle.twe_program.specs.Program.{Program}
-use Rattle.twe_machine.specs.declared.state.TaskStatus.TheVariants.{Made}
+use Rattle.machine_state.specs.declared.state.TaskStatus.TheVariants.{Made}
 use Rattle.twe_machine.specs.Listings.{IsListing}
-use Rattle.twe_machine.specs.Moves.{start_of}
-use Rattle.twe_machine.specs.Rows.{HasStatus}
-use Rattle.twe_machine.proofs.tasks.MadeTasks.{none_enabled}
+use Rattle.machine_state.specs.Moves.{start_of}
+use Rattle.machine_state.specs.Rows.{HasStatus}
+use Rattle.machine_state.proofs.tasks.MadeTasks.{none_enabled}
 use Rattle.flat_sched.specs.inner.Books.{Keeps}
 use Rattle.flat_sched.specs.inner.Groups.{AreGroups}
 use Rattle.flat_sched.specs.inner.Lists.{IsReady}
 use Rattle.flat_sched.specs.declared.books.Books.{Books}
 use Rattle.flat_sched.specs.declared.groups.Group.{Group}
-use Rattle.twe_machine.specs.declared.state.State.{State}
+use Rattle.machine_state.specs.declared.state.State.{State}
 
 module _ (p : Program) (lim : Bounds) where
   made_ready : (b : Books) (t : ℕ) → IsReady b.ready 0 → HasStatus (start_of p lim) t Made → IsReady b.ready t

@@ -4,12 +4,12 @@ use Rattle.seg_journal.specs.declared.journal.Entry.{Entry}
 use Rattle.seg_journal.specs.declared.moves.Move.{Move}
 use Rattle.twe_base.specs.Limits.{Bounds}
 use Rattle.twe_program.specs.Program.{Program}
-use Rattle.twe_machine.specs.declared.ending.Outcome.TheVariants.{Unfinished}
-use Rattle.twe_machine.specs.declared.state.State.{State}
-use Rattle.twe_machine.specs.Legal.{MayMove}
-use Rattle.twe_machine.specs.LowestFirst.{IsLowest, IsOver, LowestFirst}
-use Rattle.twe_machine.specs.Moves.{move_result, start_of}
-use Rattle.twe_machine.specs.Runs.{counted, IsOutcome, IsRun, entry_of}
+use Rattle.machine_state.specs.declared.ending.Outcome.TheVariants.{Unfinished}
+use Rattle.machine_state.specs.declared.state.State.{State}
+use Rattle.machine_state.specs.Legal.{MayMove}
+use Rattle.machine_state.specs.LowestFirst.{IsLowest, IsOver, LowestFirst}
+use Rattle.machine_state.specs.Moves.{move_result, start_of}
+use Rattle.machine_state.specs.Runs.{counted, IsOutcome, IsRun, entry_of}
 use Rattle.flat_sched.proofs.Faults.{taken_well}
 use Rattle.flat_sched.specs.SoFar.{LowestSoFar}
 use Rattle.flat_sched.proofs.SoFar.{NoFaults, counted_more, legal_more, lowest_more, lowest_whole, none_more, replayed_more}

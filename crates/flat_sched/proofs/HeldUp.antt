@@ -10,14 +10,14 @@ use Rattle.wait_graph.specs.declared.tasks.Link.{Link}
 use Rattle.wait_graph.specs.Link.{link_of}
 use Rattle.wait_graph.specs.StuckCycle.{AllAreHeldUp, IsHeldUp, IsUndone, holder_of}
 use Rattle.wait_graph.specs.Waiting.{WaitsFor, WaitsForNobody, YieldsTo}
-use Rattle.twe_machine.specs.declared.state.State.{State}
-use Rattle.twe_machine.specs.declared.state.TaskRow.{TaskRow}
-use Rattle.twe_machine.specs.declared.state.TaskStatus.{TaskStatus}
-use Rattle.twe_machine.specs.declared.state.TaskStatus.TheVariants.{Made, Enabled, Done, Faulted}
-use Rattle.twe_machine.specs.Legal.{Interfere, IsBar, MayAdmit, MayMove}
-use Rattle.twe_machine.specs.Rows.{HasStatus, LinksAgree, is_done_row, is_done_status, link_of_row}
-use Rattle.twe_machine.specs.Runs.{AllTasksDone}
-use Rattle.twe_machine.proofs.counts.Once.{not_past}
+use Rattle.machine_state.specs.declared.state.State.{State}
+use Rattle.machine_state.specs.declared.state.TaskRow.{TaskRow}
+use Rattle.machine_state.specs.declared.state.TaskStatus.{TaskStatus}
+use Rattle.machine_state.specs.declared.state.TaskStatus.TheVariants.{Made, Enabled, Done, Faulted}
+use Rattle.machine_state.specs.Legal.{Interfere, IsBar, MayAdmit, MayMove}
+use Rattle.machine_state.specs.Rows.{HasStatus, LinksAgree, is_done_row, is_done_status, link_of_row}
+use Rattle.machine_state.specs.Runs.{AllTasksDone}
+use Rattle.machine_state.proofs.counts.Once.{not_past}
 use Rattle.flat_sched.specs.Stuck.{AreHolders, IsHolder}
 
 -- the links of a task say whether its row is done

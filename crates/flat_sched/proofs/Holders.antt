@@ -7,9 +7,9 @@ use Rattle.std.proofs.lemmas.List.{ext_get_or, get_or_past}
 use Rattle.wait_graph.specs.declared.stuck.Edge.{Edge}
 use Rattle.wait_graph.specs.StuckCycle.{IsTrueEdge, holder_of, stuck_cycle}
 use Rattle.wait_graph.specs.Waiting.{WaitsFor, WaitsForNobody}
-use Rattle.twe_machine.specs.declared.state.State.{State}
-use Rattle.twe_machine.specs.declared.state.TaskStatus.TheVariants.{Made}
-use Rattle.twe_machine.specs.Rows.{HasStatus}
+use Rattle.machine_state.specs.declared.state.State.{State}
+use Rattle.machine_state.specs.declared.state.TaskStatus.TheVariants.{Made}
+use Rattle.machine_state.specs.Rows.{HasStatus}
 use Rattle.flat_sched.specs.Stuck.{AreHolders, IsHolder, IsLowestBar, IsReason, IsStuckCycle}
 
 -- a task has one lowest bar at most

@@ -11,3 +11,4 @@ pub mod Listing
 pub mod LookedAt
 pub mod NotedMoves
 pub mod Step
+pub mod RunEnds

@@ -4,7 +4,7 @@ use Rattle.std.specs.Prelude.{slice_get, slice_set}
 use Rattle.std.specs.List.{Contains}
 use Rattle.std.proofs.lemmas.Bool.{cases_eq}
 use Rattle.flat_sched.specs.inner.Lists.{IsListed}
-use Rattle.twe_machine.proofs.lists.Places.{got_one, set_same, set_other, put_before}
+use Rattle.machine_state.proofs.lists.Places.{got_one, set_same, set_other, put_before}
 
 -- one list is replaced by one that has its tasks too
 pub listed_set : (lists : List (List ℕ)) (at : ℕ) (list new : List ℕ) → slice_get lists at ≡ Some list → ((s : ℕ) → Contains list s → Contains new s)

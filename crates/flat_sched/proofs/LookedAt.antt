@@ -3,13 +3,13 @@ use Rattle.std.proofs.Common.{◌≢◌, ◌⊎◌, ◌≤◌, ◌+◌, inl, inr
 use Rattle.std.proofs.lemmas.Bool.{cases_eq}
 use Rattle.seg_journal.specs.declared.moves.Kind.{Kind}
 use Rattle.seg_journal.specs.declared.moves.Kind.TheVariants.{Admit, Run}
-use Rattle.twe_machine.proofs.links.LinksAgree.{status_of}
+use Rattle.machine_state.proofs.links.LinksAgree.{status_of}
 use Rattle.twe_machine.specs.declared.enabled_tasks.EnabledTasks.{EnabledTasks}
-use Rattle.twe_machine.specs.declared.state.State.{State}
-use Rattle.twe_machine.specs.declared.state.TaskStatus.TheVariants.{Made, Enabled}
-use Rattle.twe_machine.specs.Legal.{IsBar, MayRun, MayTake}
+use Rattle.machine_state.specs.declared.state.State.{State}
+use Rattle.machine_state.specs.declared.state.TaskStatus.TheVariants.{Made, Enabled}
+use Rattle.machine_state.specs.Legal.{IsBar, MayRun, MayTake}
 use Rattle.twe_machine.specs.Listings.{IsListing}
-use Rattle.twe_machine.specs.Rows.{HasStatus}
+use Rattle.machine_state.specs.Rows.{HasStatus}
 use Rattle.flat_sched.specs.inner.Books.{HeldMore, IsBehind, IsHeldBack, IsUnder, Keeps, KeepsBy, KeepsFrom, Looked, Released}
 use Rattle.flat_sched.specs.inner.Groups.{IsMember}
 use Rattle.flat_sched.specs.inner.Lists.{IsListed, IsReady, IsReadyFrom}

@@ -7,7 +7,7 @@ use Rattle.wait_graph.specs.declared.tasks.Link.{Link}
 use Rattle.wait_graph.specs.Link.{link_of, new_link}
 use Rattle.wait_graph.specs.Waiting.{IsDone, WaitsFor}
 use Rattle.twe_machine.specs.declared.enabled_tasks.EnabledTasks.{EnabledTasks}
-use Rattle.twe_machine.specs.declared.state.State.{State}
+use Rattle.machine_state.specs.declared.state.State.{State}
 use Rattle.flat_sched.specs.inner.Books.{Freed, Grown, IsEndOf, Noted, Woken}
 use Rattle.flat_sched.specs.inner.Groups.{AreGroups, IsMember}
 use Rattle.flat_sched.specs.inner.Lists.{IsListed, IsReady}

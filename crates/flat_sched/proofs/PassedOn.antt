@@ -1,9 +1,9 @@
 -- A group that is released or passed on, and what the books say then.
 use Rattle.std.proofs.Common.{◌≡◌, ◌⊎◌, ◌<◌, inl, inr, ℕ, List, Option, refl, sym, subst}
 use Rattle.std.proofs.lemmas.Bool.{cases_eq}
-use Rattle.twe_machine.specs.declared.state.State.{State}
-use Rattle.twe_machine.specs.declared.state.TaskStatus.TheVariants.{Made}
-use Rattle.twe_machine.specs.Rows.{HasStatus}
+use Rattle.machine_state.specs.declared.state.State.{State}
+use Rattle.machine_state.specs.declared.state.TaskStatus.TheVariants.{Made}
+use Rattle.machine_state.specs.Rows.{HasStatus}
 use Rattle.flat_sched.specs.declared.books.Books.{Books}
 use Rattle.flat_sched.specs.declared.groups.Group.{Group}
 use Rattle.flat_sched.specs.inner.Books.{Passed, Released}

@@ -4,12 +4,12 @@ use Rattle.std.specs.Prelude.{if◌then◌else◌}
 use Rattle.seg_journal.specs.declared.journal.Entry.{Entry}
 use Rattle.twe_base.specs.Limits.{Bounds}
 use Rattle.twe_program.specs.Program.{Program}
-use Rattle.twe_machine.specs.declared.ending.Outcome.TheVariants.{Unfinished}
-use Rattle.twe_machine.specs.declared.state.State.{State}
-use Rattle.twe_machine.specs.Legal.{MayMove}
-use Rattle.twe_machine.specs.LowestFirst.{IsLowest, IsOver, LowestFirstFrom}
-use Rattle.twe_machine.specs.Moves.{move_result}
-use Rattle.twe_machine.specs.Runs.{counted, is_fault, replayed, LegalFrom, IsOutcome}
+use Rattle.machine_state.specs.declared.ending.Outcome.TheVariants.{Unfinished}
+use Rattle.machine_state.specs.declared.state.State.{State}
+use Rattle.machine_state.specs.Legal.{MayMove}
+use Rattle.machine_state.specs.LowestFirst.{IsLowest, IsOver, LowestFirstFrom}
+use Rattle.machine_state.specs.Moves.{move_result}
+use Rattle.machine_state.specs.Runs.{counted, is_fault, replayed, LegalFrom, IsOutcome}
 use Rattle.flat_sched.specs.SoFar.{LowestSoFarFrom}
 
 -- a journal goes on by one move

@@ -2,11 +2,11 @@
 use Rattle.std.proofs.Common.{◌≡◌, ℕ, None}
 use Rattle.twe_program.specs.Program.{Program}
 use Rattle.twe_program.specs.WellFormed.{IsWellFormed}
-use Rattle.twe_machine.specs.declared.state.State.{State}
-use Rattle.twe_machine.specs.declared.state.TaskStatus.TheVariants.{Faulted}
-use Rattle.twe_machine.specs.Rows.{HasStatus}
-use Rattle.twe_machine.specs.Runs.{IsReachable}
-use Rattle.twe_machine.proofs.standing.ReachedStands.{reached_stands}
+use Rattle.machine_state.specs.declared.state.State.{State}
+use Rattle.machine_state.specs.declared.state.TaskStatus.TheVariants.{Faulted}
+use Rattle.machine_state.specs.Rows.{HasStatus}
+use Rattle.machine_state.specs.Runs.{IsReachable}
+use Rattle.machine_state.proofs.standing.ReachedStands.{reached_stands}
 
 -- without a first fault no task has met one
 pub no_fault : (p : Program) (st : State) → IsWellFormed p → IsReachable p st → st.first_fault ≡ None → (t : ℕ) → ¬ HasStatus st t Faulted

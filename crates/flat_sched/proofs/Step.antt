@@ -17,22 +17,22 @@ use Rattle.wait_graph.specs.Waiting.{IsDone, WaitsFor, WaitsForNobody, WaitsOn}
 use Rattle.wait_graph.proofs.ChainLemmas.{Chain-stays, Chain-fork}
 use Rattle.twe_program.specs.Program.{Program}
 use Rattle.twe_program.specs.WellFormed.{IsWellFormed}
-use Rattle.twe_machine.specs.declared.state.State.{State}
-use Rattle.twe_machine.specs.declared.state.TaskRow.{TaskRow}
-use Rattle.twe_machine.specs.declared.state.TaskStatus.{TaskStatus}
-use Rattle.twe_machine.specs.declared.state.TaskStatus.TheVariants.{Made, Enabled, Done, Faulted}
-use Rattle.twe_machine.specs.Legal.{Interfere, IsBar, MayRun, MayTake}
+use Rattle.machine_state.specs.declared.state.State.{State}
+use Rattle.machine_state.specs.declared.state.TaskRow.{TaskRow}
+use Rattle.machine_state.specs.declared.state.TaskStatus.{TaskStatus}
+use Rattle.machine_state.specs.declared.state.TaskStatus.TheVariants.{Made, Enabled, Done, Faulted}
+use Rattle.machine_state.specs.Legal.{Interfere, IsBar, MayRun, MayTake}
 use Rattle.twe_machine.specs.Listings.{IsListing}
-use Rattle.twe_machine.specs.Moves.{admitted, admitted_row, result_by_kind}
-use Rattle.twe_machine.specs.Rows.{HasStatus, IsRow, row_awaited, is_done_row, is_done_status, link_of_row}
-use Rattle.twe_machine.proofs.standing.LaterStates.{taken_later}
-use Rattle.twe_machine.proofs.links.LinksAgree.{status_of}
-use Rattle.twe_machine.proofs.tasks.MadeTasks.{free_by, made_row, orphan_by, yields_by}
-use Rattle.twe_machine.proofs.tasks.OtherTasks.{after, after_stands, awaited_there, other, other_done, other_waits, status_back, waits_back, waits_row}
-use Rattle.twe_machine.proofs.lists.Places.{below_there, got_one, set_same}
-use Rattle.twe_machine.proofs.standing.ReachedStands.{linked_of}
-use Rattle.twe_machine.proofs.standing.Standing.{IsOver, Stands}
-use Rattle.twe_machine.proofs.links.TakenJoins.{row_link}
+use Rattle.machine_state.specs.Moves.{admitted, admitted_row, result_by_kind}
+use Rattle.machine_state.specs.Rows.{HasStatus, IsRow, row_awaited, is_done_row, is_done_status, link_of_row}
+use Rattle.machine_state.proofs.standing.LaterStates.{taken_later}
+use Rattle.machine_state.proofs.links.LinksAgree.{status_of}
+use Rattle.machine_state.proofs.tasks.MadeTasks.{free_by, made_row, orphan_by, yields_by}
+use Rattle.machine_state.proofs.tasks.OtherTasks.{after, after_stands, awaited_there, other, other_done, other_waits, status_back, waits_back, waits_row}
+use Rattle.machine_state.proofs.lists.Places.{below_there, got_one, set_same}
+use Rattle.machine_state.proofs.standing.ReachedStands.{linked_of}
+use Rattle.machine_state.proofs.standing.Standing.{IsOver, Stands}
+use Rattle.machine_state.proofs.links.TakenJoins.{row_link}
 use Rattle.flat_sched.specs.inner.Books.{IsBehind, IsHeldBack, IsUnder, Keeps, Noted}
 use Rattle.flat_sched.specs.inner.Groups.{AreGroups, IsMember, MayWriteAt, WritesPath}
 use Rattle.flat_sched.specs.inner.Lists.{IsListed, IsReady}

@@ -1,3 +1,4 @@
 pub mod SoFar
 pub mod Stuck
+pub mod RunEnds
 pub mod inner

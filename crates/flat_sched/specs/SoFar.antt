@@ -3,11 +3,11 @@ use Rattle.std.specs.Prelude.{◌≡◌, List, [], ◌∷◌}
 use Rattle.seg_journal.specs.declared.journal.Entry.{Entry}
 use Rattle.twe_base.specs.Limits.{Bounds}
 use Rattle.twe_program.specs.Program.{Program}
-use Rattle.twe_machine.specs.declared.ending.Outcome.TheVariants.{Unfinished}
-use Rattle.twe_machine.specs.declared.state.State.{State}
-use Rattle.twe_machine.specs.LowestFirst.{IsLowest}
-use Rattle.twe_machine.specs.Moves.{move_result, start_of}
-use Rattle.twe_machine.specs.Runs.{IsOutcome}
+use Rattle.machine_state.specs.declared.ending.Outcome.TheVariants.{Unfinished}
+use Rattle.machine_state.specs.declared.state.State.{State}
+use Rattle.machine_state.specs.LowestFirst.{IsLowest}
+use Rattle.machine_state.specs.Moves.{move_result, start_of}
+use Rattle.machine_state.specs.Runs.{IsOutcome}
 
 -- from a state on, each of these entries is the move of the lowest-numbered task that has one, in a run that was unfinished
 abbrev pub LowestSoFarFrom : Program → Bounds → State → List Entry → Type 0

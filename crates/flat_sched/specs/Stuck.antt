@@ -4,10 +4,10 @@ use Rattle.std.specs.List.{All}
 use Rattle.wait_graph.specs.declared.stuck.Edge.{Edge}
 use Rattle.wait_graph.specs.StuckCycle.{BeginsLowest, HasEachOnce, IsClosed, holder_of, stuck_cycle}
 use Rattle.wait_graph.specs.Waiting.{WaitsFor}
-use Rattle.twe_machine.specs.declared.state.State.{State}
-use Rattle.twe_machine.specs.declared.state.TaskStatus.TheVariants.{Made}
-use Rattle.twe_machine.specs.Legal.{IsBar}
-use Rattle.twe_machine.specs.Rows.{HasStatus}
+use Rattle.machine_state.specs.declared.state.State.{State}
+use Rattle.machine_state.specs.declared.state.TaskStatus.TheVariants.{Made}
+use Rattle.machine_state.specs.Legal.{IsBar}
+use Rattle.machine_state.specs.Rows.{HasStatus}
 
 -- s is the lowest of the bars to t
 pub record IsLowestBar (st : State) (s t : ℕ) : Type 0 where

@@ -3,7 +3,7 @@ ghost use Rattle.std.specs.Prelude.{◌≡◌, [], IfOk};
 ghost use Rattle.twe_base.specs.Limits.{Bounds};
 ghost use Rattle.twe_program.specs.Program.{Program};
 ghost use Rattle.twe_machine.specs.Listings.{IsListing};
-ghost use Rattle.twe_machine.specs.Moves.{start_of};
+ghost use Rattle.machine_state.specs.Moves.{start_of};
 
 use crate::groups::Groups;
 use crate::ready::Ready;

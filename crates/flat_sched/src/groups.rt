@@ -5,16 +5,16 @@ ghost use Rattle.region_paths.specs.Concrete.{ConcretePath};
 ghost use Rattle.region_paths.specs.Filled.{filled};
 ghost use Rattle.effect_sets.specs.Filled.{all_filled};
 ghost use Rattle.effect_sets.specs.Interference.{statically_interferes};
-ghost use Rattle.twe_machine.specs.Rows.{EffectsAreFilled};
+ghost use Rattle.machine_state.specs.Rows.{EffectsAreFilled};
 ghost use Rattle.flat_sched.specs.inner.Groups.{AreAlike, AreGroups, AreKept, HasGroup, HasNone, HasOnly, IsKey, IsMember, IsNew, OthersAreKept};
 ghost use Rattle.flat_sched.specs.inner.Lists.{IsReady};
 
 use crate::ready::Ready;
 use effect_sets::{Effect, Summary, covers, interferes};
+use machine_state::State;
 use std::alloc::Global;
 use std::mem;
 use twe_base::{List, Memory};
-use twe_machine::State;
 
 /// Held tasks that all write one region.
 #[derive(Drop)]

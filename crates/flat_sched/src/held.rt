@@ -2,13 +2,14 @@
 ghost use Rattle.std.specs.Prelude.{ℕ, IfSome, IfNone};
 ghost use Rattle.twe_program.specs.Program.{Program};
 ghost use Rattle.twe_program.specs.WellFormed.{IsWellFormed};
-ghost use Rattle.twe_machine.specs.declared.state.TaskStatus.TheVariants.{Made};
-ghost use Rattle.twe_machine.specs.Legal.{IsBar};
-ghost use Rattle.twe_machine.specs.Rows.{HasStatus};
-ghost use Rattle.twe_machine.specs.Runs.{IsReachable};
+ghost use Rattle.machine_state.specs.declared.state.TaskStatus.TheVariants.{Made};
+ghost use Rattle.machine_state.specs.Legal.{IsBar};
+ghost use Rattle.machine_state.specs.Rows.{HasStatus};
+ghost use Rattle.machine_state.specs.Runs.{IsReachable};
 ghost use Rattle.flat_sched.specs.Stuck.{IsLowestBar};
 
-use twe_machine::{State, bar, effects_are_filled, links_agree};
+use machine_state::{State, effects_are_filled, links_agree};
+use twe_machine::bar;
 
 /// The lowest bar to a task that was made and not admitted, if it has a bar, in a reached state of some well-formed
 /// program. It takes no memory.

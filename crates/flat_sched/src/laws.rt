@@ -4,12 +4,12 @@ ghost use Rattle.twe_base.specs.Limits.{Bounds, IsWithin};
 ghost use Rattle.wait_graph.specs.declared.stuck.Edge.{Edge};
 ghost use Rattle.twe_program.specs.Program.{Program};
 ghost use Rattle.twe_program.specs.WellFormed.{IsWellFormed};
-ghost use Rattle.twe_machine.specs.declared.ending.Outcome.TheVariants.{Stuck};
-ghost use Rattle.twe_machine.specs.declared.state.State.{State};
-ghost use Rattle.twe_machine.specs.Runs.{IsOutcome, IsReached};
+ghost use Rattle.machine_state.specs.declared.ending.Outcome.TheVariants.{Stuck};
+ghost use Rattle.machine_state.specs.declared.state.State.{State};
+ghost use Rattle.machine_state.specs.Runs.{IsOutcome, IsReached};
 ghost use Rattle.flat_sched.specs.Stuck.{IsCycleOfReasons, IsStuckCycle};
 
-use twe_machine::{links_agree, links_are_in_order};
+use machine_state::{links_agree, links_are_in_order};
 use wait_graph::a_stuck_cycle_goes_round;
 
 /// A state has at most one stuck cycle.

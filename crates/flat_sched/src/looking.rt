@@ -3,11 +3,11 @@ ghost use Rattle.std.specs.Prelude.{◌≡◌, length, IfNone, IfSome, IfOk, OnO
 ghost use Rattle.seg_journal.specs.declared.moves.Kind.{Kind};
 ghost use Rattle.twe_program.specs.Program.{Program};
 ghost use Rattle.twe_program.specs.WellFormed.{IsWellFormed};
-ghost use Rattle.twe_machine.specs.declared.state.TaskStatus.TheVariants.{Made, Enabled};
-ghost use Rattle.twe_machine.specs.Legal.{MayMove, MayTake};
+ghost use Rattle.machine_state.specs.declared.state.TaskStatus.TheVariants.{Made, Enabled};
+ghost use Rattle.machine_state.specs.Legal.{MayMove, MayTake};
 ghost use Rattle.twe_machine.specs.Listings.{IsListing};
-ghost use Rattle.twe_machine.specs.Rows.{EffectsAreFilled, HasStatus};
-ghost use Rattle.twe_machine.specs.Runs.{IsReachable};
+ghost use Rattle.machine_state.specs.Rows.{EffectsAreFilled, HasStatus};
+ghost use Rattle.machine_state.specs.Runs.{IsReachable};
 ghost use Rattle.flat_sched.specs.inner.Books.{HeldMore, IsUnder, Looked};
 ghost use Rattle.flat_sched.specs.inner.Groups.{AreGroups};
 
@@ -15,10 +15,10 @@ use crate::books::Books;
 use crate::groups::join;
 use crate::lists::add;
 use crate::passing::release;
+use machine_state::{State, TaskStatus, effects_are_filled};
 use seg_journal::{Kind, Move};
 use std::alloc::Global;
 use twe_base::Memory;
-use twe_machine::{State, TaskStatus, effects_are_filled};
 
 /// Looks at a task: returns its legal move, if it has one. If it was made and has a bar, it is put on the list of a bar or in its
 /// group, and those of its own group are to be looked at.

@@ -1,7 +1,7 @@
 //! How far a lowest-first run goes.
 
+use machine_state::State;
 use seg_journal::Move;
-use twe_machine::State;
 use twe_program::Prog;
 
 /// Says before each move of a lowest-first run whether the run goes on. Nothing is promised of it.

@@ -1,12 +1,12 @@
 //! The lowest-first run of a program: at each step the move of the lowest-numbered task that has one.
 ghost use Rattle.std.specs.Prelude.{◌≡◌, ◌≤◌, ◌+◌, ◌*◌, [], ◌∷◌, ◌++◌, length, None, IfOk, IfSome, IfNone, OnOk};
-ghost use Rattle.twe_machine.specs.declared.ending.Outcome.TheVariants.{AllDone, Unfinished};
+ghost use Rattle.machine_state.specs.declared.ending.Outcome.TheVariants.{AllDone, Unfinished};
 ghost use Rattle.twe_base.specs.Limits.{Bounds};
 ghost use Rattle.twe_program.specs.Program.{Program};
-ghost use Rattle.twe_machine.specs.Legal.{MayMove};
-ghost use Rattle.twe_machine.specs.LowestFirst.{IsLowest, IsOver, LowestFirst};
-ghost use Rattle.twe_machine.specs.Moves.{move_result, start_of};
-ghost use Rattle.twe_machine.specs.Runs.{IsReachable, IsReached, Legal, state_after, IsOutcome, EachOnce, EachAtMostOnce, counted, entry_of};
+ghost use Rattle.machine_state.specs.Legal.{MayMove};
+ghost use Rattle.machine_state.specs.LowestFirst.{IsLowest, IsOver, LowestFirst};
+ghost use Rattle.machine_state.specs.Moves.{move_result, start_of};
+ghost use Rattle.machine_state.specs.Runs.{IsReachable, IsReached, Legal, state_after, IsOutcome, EachOnce, EachAtMostOnce, counted, entry_of};
 ghost use Rattle.flat_sched.specs.SoFar.{LowestSoFar};
 ghost use Rattle.flat_sched.specs.inner.Books.{Keeps};
 ghost use Rattle.flat_sched.specs.inner.Lists.{IsReady};
@@ -15,10 +15,11 @@ use crate::books::Books;
 use crate::looking::look;
 use crate::lookout::Lookout;
 use crate::noting::note;
+use machine_state::{State, each_thing_happens_once, journals_are_short, links_agree};
 use seg_journal::{Entry, Journal, Limits, Move};
 use std::alloc::Global;
 use twe_base::Memory;
-use twe_machine::{State, each_thing_happens_once, journals_are_short, links_agree, start, step};
+use twe_machine::{start, step};
 use twe_program::Prog;
 
 /// Runs the program under these limits to its end. Returns the journal of the run and the state that it leads to. At

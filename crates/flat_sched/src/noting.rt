@@ -10,10 +10,11 @@ use crate::books::Books;
 use crate::lists::{add, take};
 use crate::passing::pass_on;
 use crate::ready::Ready;
+use machine_state::State;
 use seg_journal::Move;
 use std::alloc::Global;
 use twe_base::{List, Memory};
-use twe_machine::{State, is_enabled};
+use twe_machine::is_enabled;
 
 /// Adds all tasks of a list to those that are to be looked at.
 fn wake(ready: &mut Ready, tasks: &[u32]) -> Result<(), Memory>

@@ -1,19 +1,19 @@
 //! Passing a group on. If the task that holds a group is over, only the lowest of the group has to be looked at: if it is
 //! admitted, it holds the others.
 ghost use Rattle.std.specs.Prelude.{◌≡◌, ◌⊎◌, ◌<◌, ◌↔◌, ℕ, IfNone, IfSome, IsTrue, OnOk};
-ghost use Rattle.twe_machine.specs.declared.state.TaskStatus.TheVariants.{Made};
-ghost use Rattle.twe_machine.specs.Rows.{HasStatus};
+ghost use Rattle.machine_state.specs.declared.state.TaskStatus.TheVariants.{Made};
+ghost use Rattle.machine_state.specs.Rows.{HasStatus};
 ghost use Rattle.flat_sched.specs.inner.Books.{Passed, Released};
 ghost use Rattle.flat_sched.specs.inner.Lists.{IsReady};
 
 use crate::books::Books;
 use crate::groups::{put, take};
 use crate::ready::Ready;
+use machine_state::{State, TaskStatus};
 use twe_base::Memory;
-use twe_machine::{State, TaskStatus};
 
 /// Whether a task was made and waits for its admission.
-fn is_made(st: &State, t: u32) -> bool
+pub fn is_made(st: &State, t: u32) -> bool
     ensures { IsTrue result ↔ HasStatus st.now t Made }
 {
     match st.tasks.get(t as usize) {

@@ -4,14 +4,14 @@ ghost use Rattle.std.specs.List.{All};
 ghost use Rattle.twe_program.specs.Program.{Program};
 ghost use Rattle.twe_program.specs.WellFormed.{IsWellFormed};
 ghost use Rattle.wait_graph.specs.StuckCycle.{IsClosed, HasEachOnce, BeginsLowest};
-ghost use Rattle.twe_machine.specs.Runs.{IsReachable, IsOutcome};
-ghost use Rattle.twe_machine.specs.declared.ending.Outcome.TheVariants.{Stuck};
+ghost use Rattle.machine_state.specs.Runs.{IsReachable, IsOutcome};
+ghost use Rattle.machine_state.specs.declared.ending.Outcome.TheVariants.{Stuck};
 ghost use Rattle.flat_sched.specs.Stuck.{AreHolders, IsHolder, IsReason, IsStuckCycle};
 
 use crate::held::held_by;
+use machine_state::{State, TaskStatus, links_agree};
 use std::alloc::Global;
 use twe_base::Memory;
-use twe_machine::{State, TaskStatus, links_agree};
 use twe_program::Prog;
 use wait_graph::Cycle;
 

@@ -10,7 +10,7 @@ use Rattle.twe_program.specs.Program.{Program}
 use Rattle.seg_journal.specs.declared.numbered.NumberedEntry.{NumberedEntry}
 use Rattle.seg_journal.specs.Merging.{IsMergeOf, journal_of}
 use Rattle.seg_journal.proofs.Slots.{of_all}
-use Rattle.floor_rule.proofs.Puts.{none_some, some_one}
+use Rattle.floor_laws.proofs.rule.Puts.{none_some, some_one}
 use Rattle.task_floor.specs.declared.steps.rest.Rest.{Rest}
 use Rattle.task_floor.specs.steps.Resting.{IsRestOf}
 use Rattle.task_floor.specs.steps.Waking.{log_of}

@@ -5,7 +5,7 @@ use mathlib.Core.List.{IsPrefix}
 use Rattle.seg_journal.specs.declared.journal.Entry.{Entry}
 use Rattle.twe_base.specs.Limits.{Bounds}
 use Rattle.twe_program.specs.Program.{Program}
-use Rattle.twe_machine.specs.Runs.{state_after}
+use Rattle.machine_state.specs.Runs.{state_after}
 use Rattle.twe_rounds.proofs.Beginnings.{prefix_self, prefix_trans}
 use Rattle.floor_crew.specs.declared.at_rest.RunAtRest.{RunAtRest}
 use Rattle.floor_crew.specs.inner.GoingOn.{HasGoneOn, IsSound}

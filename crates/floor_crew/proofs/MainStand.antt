@@ -4,10 +4,10 @@ use Rattle.std.proofs.lemmas.List.{append-nil}
 use Rattle.atomic_table.specs.Seated.{TableId}
 use Rattle.seg_journal.specs.declared.numbered.NumberedEntry.{NumberedEntry}
 use Rattle.seg_journal.specs.Merging.{all_of}
-use Rattle.floor_table.specs.FloorOf.{turn_in}
+use Rattle.floor_laws.specs.table.FloorOf.{turn_in}
 use Rattle.task_floor.specs.steps.Committing.{Log}
-use Rattle.floor_table.specs.nodes.Holds.{joined_tree_view}
-use Rattle.floor_table.specs.nodes.Seats.{TreeSeat}
+use Rattle.floor_laws.specs.table.nodes.Holds.{joined_tree_view}
+use Rattle.floor_laws.specs.table.nodes.Seats.{TreeSeat}
 use Rattle.task_floor.specs.Holding.{IsIdleBeside}
 use Rattle.task_floor.specs.Stands.{TreeStand}
 use Rattle.floor_crew.specs.inner.Lent.{HasParts, IsMainOn}

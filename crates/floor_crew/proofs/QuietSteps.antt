@@ -5,17 +5,16 @@ use mathlib.Core.List.{IsPrefix}
 use Rattle.seg_journal.specs.declared.journal.Entry.{Entry}
 use Rattle.twe_base.specs.Limits.{Bounds}
 use Rattle.twe_program.specs.Program.{Program}
-use Rattle.twe_machine.specs.declared.ending.Outcome.TheVariants as outcomes
-use Rattle.twe_machine.specs.declared.state.State.{State}
-use Rattle.twe_machine.specs.LowestFirst.{IsLowest}
-use Rattle.twe_machine.specs.Runs.{IsOutcome, entry_of, state_after}
-use Rattle.flat_sched.specs.Stuck.{IsStuckCycle}
-use Rattle.twe_rounds.specs.declared.crew.Quietly.{Quietly}
-use Rattle.twe_rounds.specs.declared.crew.Quietly.TheVariants.{Faulted, AllDone, Stuck, Moved}
-use Rattle.twe_rounds.specs.Crews.{CrewRun, GoesOn, StepsFrom, StepsQuietly}
+use Rattle.machine_state.specs.declared.ending.Outcome.TheVariants as outcomes
+use Rattle.machine_state.specs.declared.state.State.{State}
+use Rattle.machine_state.specs.LowestFirst.{IsLowest}
+use Rattle.machine_state.specs.Runs.{IsOutcome, entry_of, state_after}
+use Rattle.flat_sched.specs.declared.ending.RunEnd.{RunEnd}
+use Rattle.flat_sched.specs.declared.ending.RunEnd.TheVariants.{AllDone, Fault, Stuck, Unfinished}
+use Rattle.flat_sched.specs.RunEnds.{IsRunEnd}
+use Rattle.twe_rounds.specs.Crews.{CrewRun, GoesOn, GrowsUnlessOver, StepsFrom, StepsQuietly}
 use Rattle.floor_crew.specs.declared.at_rest.RunAtRest.{RunAtRest}
 use Rattle.floor_crew.specs.inner.GoingOn.{IsSound}
-use Rattle.floor_crew.specs.Rounds.{GrowsUnlessOver}
 use Rattle.floor_crew.specs.inner.Keeping.{RunIsKept, Steps, journal_of}
 
 module _ (p : Program) (lim : Bounds) (workers : ℕ) where
@@ -23,14 +22,14 @@ module _ (p : Program) (lim : Bounds) (workers : ℕ) where
   abbrev pub crew_of : List Entry → CrewRun
   crew_of journal = record { prog = p; lim = lim; workers = workers; journal = Some journal }
 
-  pub steps_from : (old new : RunAtRest) (found : Quietly) → IsSound p lim old → Steps p lim old new found → StepsFrom (crew_of old.rest.journal) (crew_of new.rest.journal) old.rest.journal found
-  steps_from old new Faulted sound steps =
-      (ap (λ (r : RunAtRest). crew_of r.rest.journal) steps.0, (steps.1.0, steps.1.1, steps.1.2, subst (λ (st : State). IsOutcome st (outcomes.Fault steps.1.0 steps.1.1 steps.1.2)) sound.run_is.same steps.1.3))
+  pub steps_from : (old new : RunAtRest) (end : RunEnd) → IsSound p lim old → Steps p lim old new end → StepsFrom (crew_of old.rest.journal) (crew_of new.rest.journal) old.rest.journal end
   steps_from old new AllDone sound steps =
-      (ap (λ (r : RunAtRest). crew_of r.rest.journal) steps.0, subst (λ (st : State). IsOutcome st outcomes.AllDone) sound.run_is.same steps.1)
+      (ap (λ (r : RunAtRest). crew_of r.rest.journal) steps.0, subst (λ (st : State). IsRunEnd st AllDone) sound.run_is.same steps.1)
+  steps_from old new (Fault task kind place) sound steps =
+      (ap (λ (r : RunAtRest). crew_of r.rest.journal) steps.0, subst (λ (st : State). IsRunEnd st (Fault task kind place)) sound.run_is.same steps.1)
   steps_from old new (Stuck cycle) sound steps =
-      (ap (λ (r : RunAtRest). crew_of r.rest.journal) steps.0, subst (λ (st : State). IsOutcome st outcomes.Stuck) sound.run_is.same steps.1, subst (λ (st : State). IsStuckCycle st cycle) sound.run_is.same steps.2)
-  steps_from old new Moved sound steps =
+      (ap (λ (r : RunAtRest). crew_of r.rest.journal) steps.0, subst (λ (st : State). IsRunEnd st (Stuck cycle)) sound.run_is.same steps.1)
+  steps_from old new Unfinished sound steps =
       let mv = steps.1.0 in (
         subst (λ (st : State). IsOutcome st outcomes.Unfinished) sound.run_is.same steps.0,
         (
@@ -41,12 +40,12 @@ module _ (p : Program) (lim : Bounds) (workers : ℕ) where
       )
 
   -- a quiet step of a crew that has the run `old`
-  pub quiet_kept : (crew : CrewRun) (kept : Option RunAtRest) (old new : RunAtRest) (found : Quietly) → kept ≡ Some old → RunIsKept p lim kept
-      → record { prog = p; lim = lim; workers = workers; journal = journal_of kept } ≡ crew → Steps p lim old new found → StepsQuietly crew (crew_of new.rest.journal) found
-  quiet_kept crew kept old new found is sound view steps =
+  pub quiet_kept : (crew : CrewRun) (kept : Option RunAtRest) (old new : RunAtRest) (end : RunEnd) → kept ≡ Some old → RunIsKept p lim kept
+      → record { prog = p; lim = lim; workers = workers; journal = journal_of kept } ≡ crew → Steps p lim old new end → StepsQuietly crew (crew_of new.rest.journal) end
+  quiet_kept crew kept old new end is sound view steps =
       let same : crew_of old.rest.journal ≡ crew = ap (λ (k : Option RunAtRest). record { prog = p; lim = lim; workers = workers; journal = journal_of k }) (sym is) ∙ view in
       let sound_now : IsSound p lim old = subst (RunIsKept p lim) is sound in
-      subst (λ (c : CrewRun). StepsQuietly c (crew_of new.rest.journal) found) same (old.rest.journal, refl, sound_now.run_is.legal, steps_from old new found sound_now steps)
+      subst (λ (c : CrewRun). StepsQuietly c (crew_of new.rest.journal) end) same (old.rest.journal, refl, sound_now.run_is.legal, steps_from old new end sound_now steps)
 
   -- a round of a crew that has the run `old`
   pub round_kept : (crew : CrewRun) (kept : Option RunAtRest) (old new : RunAtRest) → kept ≡ Some old → RunIsKept p lim kept

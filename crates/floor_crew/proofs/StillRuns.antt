@@ -5,12 +5,12 @@ use Rattle.seg_journal.specs.declared.journal.Entry.{Entry}
 use Rattle.seg_journal.specs.declared.moves.Move.{Move}
 use Rattle.twe_base.specs.Limits.{Bounds}
 use Rattle.twe_program.specs.Program.{Program}
-use Rattle.twe_machine.specs.declared.state.State.{State}
-use Rattle.twe_machine.specs.Legal.{MayMove}
+use Rattle.machine_state.specs.declared.state.State.{State}
+use Rattle.machine_state.specs.Legal.{MayMove}
 use Rattle.twe_machine.specs.Listings.{IsListing}
-use Rattle.twe_machine.specs.Moves.{move_result, start_of}
-use Rattle.twe_machine.specs.Runs.{IsReached, IsRun, entry_of}
-use Rattle.twe_machine.proofs.replays.Replayed.{run_more}
+use Rattle.machine_state.specs.Moves.{move_result, start_of}
+use Rattle.machine_state.specs.Runs.{IsReached, IsRun, entry_of}
+use Rattle.machine_state.proofs.replays.Replayed.{run_more}
 use Rattle.floor_crew.specs.declared.at_rest.RunAtRest.{RunAtRest}
 use Rattle.floor_crew.specs.inner.GoingOn.{IsSound}
 

@@ -2,10 +2,10 @@
 use Rattle.std.proofs.Common.{◌≡◌, ◌≤◌, ◌<◌, ◌+◌, ℕ, ℤ, Bool, true, false, cond, nat_lt, List, [], ◌∷◌, Option, None, Some, arith, refl, ap, subst, ◌∙◌, slice_get}
 use Rattle.std.proofs.lemmas.Bool.{ltb-false}
 use Rattle.effect_sets.specs.declared.effects.Summary.{Summary}
-use Rattle.seg_exec.specs.declared.frame.Frame.{Frame}
-use Rattle.seg_exec.specs.declared.stop.Stop.{Stop}
-use Rattle.seg_exec.specs.declared.stop.Stop.TheVariants as stops
-use Rattle.seg_exec.specs.Segment.{segment}
+use Rattle.seg_meaning.specs.declared.frame.Frame.{Frame}
+use Rattle.seg_meaning.specs.declared.stop.Stop.{Stop}
+use Rattle.seg_meaning.specs.declared.stop.Stop.TheVariants as stops
+use Rattle.seg_meaning.specs.Segment.{segment}
 use Rattle.seg_journal.specs.declared.journal.End.{End}
 use Rattle.seg_journal.specs.declared.journal.End.TheVariants as ends
 use Rattle.seg_journal.specs.declared.journal.Entry.{Entry}
@@ -16,11 +16,11 @@ use Rattle.twe_base.specs.declared.place.Place.{Place}
 use Rattle.twe_base.specs.Limits.{Bounds}
 use Rattle.twe_program.specs.Program.{Program}
 use Rattle.wait_graph.specs.Link.{link_of}
-use Rattle.twe_machine.specs.declared.state.State.{State}
-use Rattle.twe_machine.specs.declared.state.TaskRow.{TaskRow}
-use Rattle.twe_machine.specs.Legal.{MayMove}
-use Rattle.twe_machine.specs.Moves.{admitted, joined_child, move_result, ran, ready_frame, result_by_kind, start_of, state_after_asking, state_after_fault, state_after_join, state_after_make, stop_result, stopped_frame}
-use Rattle.twe_machine.specs.Runs.{IsRun, LegalFrom, replayed}
+use Rattle.machine_state.specs.declared.state.State.{State}
+use Rattle.machine_state.specs.declared.state.TaskRow.{TaskRow}
+use Rattle.machine_state.specs.Legal.{MayMove}
+use Rattle.machine_state.specs.Moves.{admitted, joined_child, move_result, ran, ready_frame, result_by_kind, start_of, state_after_asking, state_after_fault, state_after_join, state_after_make, stop_result, stopped_frame}
+use Rattle.machine_state.specs.Runs.{IsRun, LegalFrom, replayed}
 
 -- the limits with this fuel and this number of tasks
 abbrev bounded : ℕ → ℕ → Bounds

@@ -7,10 +7,11 @@
 //! more tasks than are made, and the first one for few if few are made; if they were long, the next one is larger. All that is
 //! counted here is an estimate, on which no clause rests.
 
+use machine_state::State;
 use seg_journal::End;
 use task_floor::steps::Rest;
 use twe_base::Limits;
-use twe_machine::State;
+use twe_rounds::fuel_left;
 
 /// What a move counts beside the fuel that it takes, in units of fuel. A turn of a short loop takes one unit.
 const PER_MOVE: u64 = 80;
@@ -149,12 +150,4 @@ fn fuel_taken(lim: Limits, st: &State) -> u64 {
         taken = taken.saturating_add(lim.fuel.saturating_sub(row.frame.fuel));
     }
     taken
-}
-
-/// The fuel that a task has left; 0 if there is no such task.
-pub(crate) fn fuel_left(st: &State, task: u32) -> u64 {
-    match st.tasks.get(task as usize) {
-        Some(row) => row.frame.fuel,
-        None => 0,
-    }
 }

@@ -10,7 +10,7 @@ const MOST_STATEMENTS: u32 = 64;
 
 /// How a segment goes on from a statement, or from a list of them.
 #[derive(Clone, Copy, Debug, PartialEq, Eq)]
-pub(crate) enum Way {
+pub(crate) enum SegmentWay {
     /// On each way it ends there.
     Ends,
     /// It ends there, or comes to what stands behind.
@@ -34,23 +34,23 @@ impl LookAhead {
     }
 
     /// The way through a block, from the statement with this index on.
-    pub(crate) fn through_rest(&mut self, block: &Block, first: usize) -> Way {
+    pub(crate) fn through_rest(&mut self, block: &Block, first: usize) -> SegmentWay {
         for at in first..block.stmts.len() {
             if let Some(stmt) = block.stmts.get(at) {
                 let way = self.past(stmt);
-                if way != Way::GoesOn {
+                if way != SegmentWay::GoesOn {
                     return way;
                 }
             }
         }
-        Way::GoesOn
+        SegmentWay::GoesOn
     }
 
     /// The way past a statement.
     #[cycle(ahead)]
-    fn past(&mut self, stmt: &Stmt) -> Way {
+    fn past(&mut self, stmt: &Stmt) -> SegmentWay {
         if self.left == 0 {
-            return Way::Unknown;
+            return SegmentWay::Unknown;
         }
         self.left -= 1;
         match &stmt.kind {
@@ -67,26 +67,26 @@ impl LookAhead {
 
     /// The way through a block.
     #[cycle(ahead)]
-    fn through(&mut self, block: &Block) -> Way {
+    fn through(&mut self, block: &Block) -> SegmentWay {
         for stmt in block.stmts.as_slice() {
             let way = self.past(stmt);
-            if way != Way::GoesOn {
+            if way != SegmentWay::GoesOn {
                 return way;
             }
         }
-        Way::GoesOn
+        SegmentWay::GoesOn
     }
 
     /// The way past an `if`.
     #[cycle(ahead)]
-    fn past_choice(&mut self, arms: &Arms) -> Way {
+    fn past_choice(&mut self, arms: &Arms) -> SegmentWay {
         let mut way = match &arms.last {
             Some(body) => self.through(body),
-            None => Way::GoesOn,
+            None => SegmentWay::GoesOn,
         };
         for arm in arms.arms.as_slice() {
             if !arm.condition.is_plain() {
-                return Way::Unknown;
+                return SegmentWay::Unknown;
             }
             way = either(way, self.through(&arm.body));
         }
@@ -96,34 +96,34 @@ impl LookAhead {
 
 /// The way past a loop with this condition, where `turn` is the way through its body. It is not known unless the segment ends in
 /// the loop's first turn, if there is one.
-fn past_loop(condition: &Expr, turn: Way) -> Way {
-    if condition.is_plain() && turn == Way::Ends {
-        Way::GoesOn
+fn past_loop(condition: &Expr, turn: SegmentWay) -> SegmentWay {
+    if condition.is_plain() && turn == SegmentWay::Ends {
+        SegmentWay::GoesOn
     } else {
-        Way::Unknown
+        SegmentWay::Unknown
     }
 }
 
 /// The way past one or the other.
-fn either(one: Way, other: Way) -> Way {
+fn either(one: SegmentWay, other: SegmentWay) -> SegmentWay {
     match (one, other) {
-        (Way::Unknown, _) => Way::Unknown,
-        (_, Way::Unknown) => Way::Unknown,
-        (Way::Ends, Way::Ends) => Way::Ends,
-        _ => Way::GoesOn,
+        (SegmentWay::Unknown, _) => SegmentWay::Unknown,
+        (_, SegmentWay::Unknown) => SegmentWay::Unknown,
+        (SegmentWay::Ends, SegmentWay::Ends) => SegmentWay::Ends,
+        _ => SegmentWay::GoesOn,
     }
 }
 
 /// The way past a statement in which no other one stands.
-fn past_simple(kind: &StmtKind) -> Way {
+fn past_simple(kind: &StmtKind) -> SegmentWay {
     match kind {
-        StmtKind::Make { args, .. } => way_if(are_plain(args), Way::Ends),
-        StmtKind::Wait { .. } => Way::Ends,
-        StmtKind::Return(value) => way_if(is_plain_if_there(value), Way::Ends),
-        StmtKind::Let { value, .. } => way_if(value.is_plain(), Way::GoesOn),
-        StmtKind::Set { value, .. } => way_if(value.is_plain(), Way::GoesOn),
-        StmtKind::SetCell { value, .. } => way_if(value.is_plain(), Way::GoesOn),
-        StmtKind::Print { value, .. } => way_if(value.is_plain(), Way::GoesOn),
+        StmtKind::Make { args, .. } => way_if(are_plain(args), SegmentWay::Ends),
+        StmtKind::Wait { .. } => SegmentWay::Ends,
+        StmtKind::Return(value) => way_if(is_plain_if_there(value), SegmentWay::Ends),
+        StmtKind::Let { value, .. } => way_if(value.is_plain(), SegmentWay::GoesOn),
+        StmtKind::Set { value, .. } => way_if(value.is_plain(), SegmentWay::GoesOn),
+        StmtKind::SetCell { value, .. } => way_if(value.is_plain(), SegmentWay::GoesOn),
+        StmtKind::Print { value, .. } => way_if(value.is_plain(), SegmentWay::GoesOn),
         StmtKind::SetAt {
             index,
             second,
@@ -131,15 +131,15 @@ fn past_simple(kind: &StmtKind) -> Way {
             ..
         } => {
             let plain = index.is_plain() && is_plain_if_there(second) && value.is_plain();
-            way_if(plain, Way::GoesOn)
+            way_if(plain, SegmentWay::GoesOn)
         }
-        _ => Way::Unknown,
+        _ => SegmentWay::Unknown,
     }
 }
 
 /// This way, if no method is called on it.
-fn way_if(plain: bool, way: Way) -> Way {
-    if plain { way } else { Way::Unknown }
+fn way_if(plain: bool, way: SegmentWay) -> SegmentWay {
+    if plain { way } else { SegmentWay::Unknown }
 }
 
 /// Whether an expression calls no method, if there is one.

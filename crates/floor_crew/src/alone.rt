@@ -4,33 +4,33 @@
 //! the workers. Once workers have found that tasks are short, each runs as soon as it may, so that few are held back. All others
 //! wait for a round, unless the work since the last one has not paid for another.
 ghost use Rattle.std.specs.Prelude.{◌≡◌, ◌∷◌, ◌++◌, [], OnOk};
-ghost use Rattle.twe_machine.specs.Legal.{MayMove};
-ghost use Rattle.twe_machine.specs.Runs.{entry_of};
+ghost use Rattle.machine_state.specs.Legal.{MayMove};
+ghost use Rattle.machine_state.specs.Runs.{entry_of};
 ghost use Rattle.floor_crew.specs.inner.GoingOn.{HasGoneOn, IsSound};
 
-use crate::account::fuel_left;
 use crate::at_rest::RunAtRest;
-use crate::book::Book;
 use crate::brief::is_next_brief;
-use crate::looking::{Found, look};
-use crate::rest_setup::RestSetup;
+use crate::outlook_at_rest::{OutlookAtRest, outlook_at_rest};
+use crate::task_book::TaskBook;
 use seg_journal::{Kind, Move};
 use twe_base::Memory;
+use twe_rounds::{Setup, fuel_left};
 
-/// Takes moves until two tasks may run beside each other, or none may run. Returns whether two may.
+/// Takes moves until two tasks may run beside each other, none may run, or one has met a fault. After a fault it takes none.
+/// Returns whether two may run.
 pub(crate) fn go_on_alone(
-    setup: &RestSetup<'_>,
+    setup: &Setup<'_>,
     run: &mut RunAtRest,
-    book: &mut Book,
+    book: &mut TaskBook,
 ) -> Result<bool, Memory>
     requires { IsSound setup.now.p.now setup.now.lim run.old }
     ensures { OnOk result (HasGoneOn setup.now.p.now setup.now.lim run.old.rest.journal run.new) }
 {
     'moves: for _ in 0..u64::MAX {
-        look_at_ready(setup, run, book)?;
         if run.rest.state.first_fault.is_some() {
             return Ok(false);
         }
+        admit_all_ready(setup, run, book)?;
         if !go_on_once(setup, run, book)? {
             return Ok(book.has_two());
         }
@@ -40,7 +40,7 @@ pub(crate) fn go_on_alone(
 
 /// Runs the next segment that is run alone, if there is one. Returns whether there may be another, perhaps after a look at the
 /// tasks that are to be looked at.
-fn go_on_once(setup: &RestSetup<'_>, run: &mut RunAtRest, book: &mut Book) -> Result<bool, Memory>
+fn go_on_once(setup: &Setup<'_>, run: &mut RunAtRest, book: &mut TaskBook) -> Result<bool, Memory>
     requires { IsSound setup.now.p.now setup.now.lim run.old }
     ensures { OnOk result (HasGoneOn setup.now.p.now setup.now.lim run.old.rest.journal run.new) }
 {
@@ -52,7 +52,11 @@ fn go_on_once(setup: &RestSetup<'_>, run: &mut RunAtRest, book: &mut Book) -> Re
 }
 
 /// Looks at the tasks that are to be looked at, and admits each that may be admitted.
-fn look_at_ready(setup: &RestSetup<'_>, run: &mut RunAtRest, book: &mut Book) -> Result<(), Memory>
+fn admit_all_ready(
+    setup: &Setup<'_>,
+    run: &mut RunAtRest,
+    book: &mut TaskBook,
+) -> Result<(), Memory>
     requires { IsSound setup.now.p.now setup.now.lim run.old }
     ensures { OnOk result (HasGoneOn setup.now.p.now setup.now.lim run.old.rest.journal run.new) }
 {
@@ -60,47 +64,47 @@ fn look_at_ready(setup: &RestSetup<'_>, run: &mut RunAtRest, book: &mut Book) ->
         let Some(task) = book.next() else {
             break;
         };
-        look_at(setup, run, book, task)?;
+        admit_or_keep(setup, run, book, task)?;
     }
     Ok(())
 }
 
 /// Looks at a task, and admits it if it may be admitted.
-fn look_at(
-    setup: &RestSetup<'_>,
+fn admit_or_keep(
+    setup: &Setup<'_>,
     run: &mut RunAtRest,
-    book: &mut Book,
+    book: &mut TaskBook,
     task: u32,
 ) -> Result<(), Memory>
     requires { IsSound setup.now.p.now setup.now.lim run.old }
     ensures { OnOk result (HasGoneOn setup.now.p.now setup.now.lim run.old.rest.journal run.new) }
 {
-    match look(setup.p, &run.rest.state, &run.enabled, task) {
-        Found::Admissible => {
+    match outlook_at_rest(setup.p, &run.rest.state, &run.enabled, task) {
+        OutlookAtRest::Admissible => {
             let kind = Kind::Admit;
             take(setup, run, book, Move { kind, task })
         }
-        Found::Held { by } => book.hold(task, by),
-        Found::Runs => {
+        OutlookAtRest::Held { by } => book.hold(task, by),
+        OutlookAtRest::Runs => {
             let short = book.account.are_tasks_short();
             book.add_running(task, short || is_next_brief(setup.p, &run.rest.state, task))
         }
-        Found::Waits { on, next } => book.wait(task, on, next),
-        Found::Over => Ok(()),
+        OutlookAtRest::Waits { on, next } => book.wait(task, on, next),
+        OutlookAtRest::Over => Ok(()),
     }
 }
 
 /// Runs the next segment of a task, if it may run.
 fn run_next(
-    setup: &RestSetup<'_>,
+    setup: &Setup<'_>,
     run: &mut RunAtRest,
-    book: &mut Book,
+    book: &mut TaskBook,
     task: u32,
 ) -> Result<(), Memory>
     requires { IsSound setup.now.p.now setup.now.lim run.old }
     ensures { OnOk result (HasGoneOn setup.now.p.now setup.now.lim run.old.rest.journal run.new) }
 {
-    let Found::Runs = look(setup.p, &run.rest.state, &run.enabled, task) else {
+    let OutlookAtRest::Runs = outlook_at_rest(setup.p, &run.rest.state, &run.enabled, task) else {
         return Ok(());
     };
     let kind = Kind::Run;
@@ -109,9 +113,9 @@ fn run_next(
 
 /// Takes a legal move, and notes it in the book.
 pub(crate) fn take(
-    setup: &RestSetup<'_>,
+    setup: &Setup<'_>,
     run: &mut RunAtRest,
-    book: &mut Book,
+    book: &mut TaskBook,
     mv: Move,
 ) -> Result<(), Memory>
     requires sound { IsSound setup.now.p.now setup.now.lim run.old }

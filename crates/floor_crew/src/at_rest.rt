@@ -1,14 +1,15 @@
 //! A run at rest: between rounds, while nobody else has it, it is plain data, and moves are taken one by one.
 ghost use Rattle.std.specs.Prelude.{◌≡◌, ◌∷◌, ◌++◌, [], IfOk, OnOk};
-ghost use Rattle.twe_machine.specs.Legal.{MayMove};
-ghost use Rattle.twe_machine.specs.Runs.{IsRun, entry_of};
+ghost use Rattle.machine_state.specs.Legal.{MayMove};
+ghost use Rattle.machine_state.specs.Runs.{IsRun, entry_of};
 ghost use Rattle.floor_crew.specs.inner.GoingOn.{IsSound};
 
+use machine_state::links_agree;
 use seg_journal::{Entry, Journal, Move};
 use std::alloc::Global;
 use task_floor::steps::Rest;
 use twe_base::{Limits, Memory};
-use twe_machine::{EnabledTasks, links_agree, start, step};
+use twe_machine::{EnabledTasks, start, step};
 use twe_program::Prog;
 
 /// A run at rest, with its enabled tasks.

@@ -1,14 +1,14 @@
 //! Whether the next segment of a task is short, so that little is lost if the others lie still meanwhile.
 
-use crate::ahead::{LookAhead, Way};
-use seg_exec::{Frame, Position};
-use twe_machine::State;
+use crate::ahead::{LookAhead, SegmentWay};
+use machine_state::State;
+use seg_meaning::{Frame, Position};
 use twe_program::{Arms, Block, Decl, Prog, Stmt, StmtKind};
 
 /// Whether the first segment of a task with this declaration is known to be short.
 pub(crate) fn starts_brief(decl: &Decl) -> bool {
     let mut ahead = LookAhead::new();
-    ahead.through_rest(&decl.body.block, 0) != Way::Unknown
+    ahead.through_rest(&decl.body.block, 0) != SegmentWay::Unknown
 }
 
 /// Whether no statement of a task has begun.
@@ -57,18 +57,18 @@ fn is_short(body: &Block, positions: &[Position]) -> bool {
     let mut ahead = LookAhead::new();
     for depth in (0..positions.len()).rev() {
         match way_at(&mut ahead, body, positions, depth) {
-            Way::Ends => return true,
-            Way::GoesOn => {}
-            Way::Unknown => return false,
+            SegmentWay::Ends => return true,
+            SegmentWay::GoesOn => {}
+            SegmentWay::Unknown => return false,
         }
     }
     true
 }
 
 /// The way through what is left of the open block at this depth, once the blocks in it have ended.
-fn way_at(ahead: &mut LookAhead, body: &Block, positions: &[Position], depth: usize) -> Way {
+fn way_at(ahead: &mut LookAhead, body: &Block, positions: &[Position], depth: usize) -> SegmentWay {
     let Some(block) = open_block(body, positions, depth) else {
-        return Way::Unknown;
+        return SegmentWay::Unknown;
     };
     ahead.through_rest(block, first_left(block, positions, depth))
 }

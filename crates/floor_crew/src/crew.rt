@@ -2,31 +2,30 @@
 //! rounds, and by workers in them.
 ghost use Rattle.std.specs.Prelude.{◌≡◌, ◌≤◌, [], Some, None, IfOk, IfErr, OnOk, OnErr};
 ghost use Rattle.isolation_laws.specs.soundness.KeepsEffects.{KeepsEffects};
-ghost use Rattle.twe_machine.specs.Runs.{Legal, state_after};
-ghost use Rattle.twe_rounds.specs.Crews.{CrewRun, GoesOn, StepsQuietly, lost, state_of};
-ghost use Rattle.floor_crew.specs.Rounds.{GrowsUnlessOver};
+ghost use Rattle.machine_state.specs.Runs.{Legal, state_after};
+ghost use Rattle.twe_rounds.specs.Crews.{CrewRun, GoesOn, GrowsUnlessOver, StepsQuietly, lost, state_of};
 ghost use Rattle.floor_crew.specs.inner.GoingOn.{IsSound};
 ghost use Rattle.floor_crew.specs.inner.Keeping.{Steps};
 
 use crate::alone::take;
 use crate::at_rest::RunAtRest;
-use crate::book::Book;
 use crate::going_on::go_on;
-use crate::rest_setup::RestSetup;
+use crate::task_book::TaskBook;
 use effect_tree::Shape;
-use flat_sched::stuck_cycle;
-use run_gates::Gate;
+use flat_sched::{RunEnd, stuck_cycle};
+use machine_state::{Outcome, State};
 use seg_journal::Journal;
 use std::alloc::Global;
 use std::marker::Model;
 use std::snapshot::Snapshot;
 use std::sync::Wait;
 use std::thread::Threads;
+use steal_pool::gates::Gate;
 use task_floor::steps::Rest;
 use twe_base::{Limits, Memory};
-use twe_machine::{Outcome, State, lowest, outcome};
+use twe_machine::{lowest, outcome};
 use twe_program::Prog;
-use twe_rounds::{Quietly, lost};
+use twe_rounds::{Setup, lost};
 
 /// A run of a program by workers on a floor. Once memory runs out, a crew has lost its run, and answers `Memory` from then on.
 #[derive(Drop)]
@@ -38,7 +37,7 @@ pub struct FloorCrew {
     lim: Limits,
     workers: u32,
     run: Option<RunAtRest>,
-    book: Book,
+    book: TaskBook,
 }
 
 impl Model for FloorCrew {
@@ -82,7 +81,7 @@ impl FloorCrew {
             lim,
             workers,
             run: Some(run),
-            book: Book::new(alloc),
+            book: TaskBook::new(alloc),
         })
     }
 
@@ -102,7 +101,7 @@ impl FloorCrew {
         requires state { state ≡ state_after p.now lim journal }
         ensures { IfOk result (λ crew. crew ≡ record { prog = p.now; lim = lim; workers = workers; journal = Some journal }) }
     {
-        let mut book = Book::new(alloc);
+        let mut book = TaskBook::new(alloc);
         book.begin_anew(&state, journal.len())?;
         let run = RunAtRest::of(alloc, p, lim, Rest { state, journal })?;
         Ok(FloorCrew {
@@ -116,26 +115,27 @@ impl FloorCrew {
         })
     }
 
-    /// Takes the lowest legal move, if the run can go on. If it cannot, the crew stays as it is, and the answer says how
-    /// the run has ended.
-    pub fn quiet_step(&mut self, p: &Prog) -> Result<Quietly, Memory>
+    /// Takes the lowest legal move, if the run can go on. If it cannot, the crew stays as it is, and it says how the run
+    /// has ended.
+    pub fn quiet_step(&mut self, p: &Prog) -> Result<RunEnd, Memory>
         requires { p.now ≡ self.old.prog }
         ensures ok { IfOk result (StepsQuietly self.old self.new) }
         ensures err { OnErr result (self.new ≡ lost self.old) }
     {
         let mut run = self.run.take().ok_or(lost())?;
-        let setup = RestSetup {
+        let setup = Setup {
             alloc: self.alloc,
             p,
             lim: self.lim,
         };
-        let found = step_quietly(&setup, &mut run, &mut self.book)?;
+        let end = step_quietly(&setup, &mut run, &mut self.book)?;
         self.run = Some(run);
-        Ok(found)
+        Ok(end)
     }
 
-    /// Goes on with the run, if it can, until no task may. As long as no two tasks may run beside each other, moves are taken at
-    /// rest. If two may, the workers admit tasks and run segments on a floor until they find no task that may go on.
+    /// Goes on with the run, if it can: then its journal is longer. As long as no two tasks may run beside each other whose
+    /// segments may be long, moves are taken at rest. If two may, the workers admit tasks and run segments on a floor. The round
+    /// ends once a task has met a fault, or none was found that may go on; no clause says that none may.
     pub fn round<R: Threads + Wait + Sync, G: Gate + Sync>(
         &mut self,
         rt: &R,
@@ -148,7 +148,7 @@ impl FloorCrew {
         ensures err { OnErr result (self.new ≡ lost self.old) }
     {
         let run = self.run.take().ok_or(lost())?;
-        let setup = RestSetup {
+        let setup = Setup {
             alloc: self.alloc,
             p,
             lim: self.lim,
@@ -166,8 +166,8 @@ impl FloorCrew {
         Ok(())
     }
 
-    /// The journal of the run, and the state to which it leads. After a fault there may be entries of segments that had begun
-    /// before it.
+    /// The journal of the run, and the state to which it leads. After a fault there may be entries of moves that workers began
+    /// before they knew of it.
     pub fn close(self) -> Result<(Journal, State), Memory>
         ensures journal { IfOk result (λ run. self.journal ≡ Some run.0) }
         ensures legal { IfOk result (λ run. Legal self.prog self.lim run.0) }
@@ -182,25 +182,25 @@ impl FloorCrew {
 
 /// A quiet step in a run.
 fn step_quietly(
-    setup: &RestSetup<'_>,
+    setup: &Setup<'_>,
     run: &mut RunAtRest,
-    book: &mut Book,
-) -> Result<Quietly, Memory>
+    book: &mut TaskBook,
+) -> Result<RunEnd, Memory>
     requires { IsSound setup.now.p.now setup.now.lim run.old }
     ensures sound { OnOk result (IsSound setup.now.p.now setup.now.lim run.new) }
     ensures steps { IfOk result (Steps setup.now.p.now setup.now.lim run.old run.new) }
 {
     let p = setup.p;
     match outcome(p, &run.rest.state) {
-        Outcome::Fault { .. } => Ok(Quietly::Faulted),
-        Outcome::AllDone => Ok(Quietly::AllDone),
-        Outcome::Stuck => Ok(Quietly::Stuck(stuck_cycle(setup.alloc, p, &run.rest.state)?)),
+        Outcome::AllDone => Ok(RunEnd::AllDone),
+        Outcome::Fault { task, kind, place } => Ok(RunEnd::Fault { task, kind, place }),
+        Outcome::Stuck => Ok(RunEnd::Stuck(stuck_cycle(setup.alloc, p, &run.rest.state)?)),
         Outcome::Unfinished => {
             let Some(mv) = lowest(p, &run.rest.state) else {
                 unreachable!()
             };
             take(setup, run, book, mv)?;
-            Ok(Quietly::Moved)
+            Ok(RunEnd::Unfinished)
         }
     }
 }

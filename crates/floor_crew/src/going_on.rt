@@ -2,35 +2,35 @@
 ghost use Rattle.std.specs.Prelude.{◌≡◌, ◌≤◌, ◌<◌, length, IfOk, IfSome, IsFalse, IsTrue, OnOk};
 ghost use mathlib.Core.List.{IsPrefix};
 ghost use Rattle.isolation_laws.specs.soundness.KeepsEffects.{KeepsEffects};
-ghost use Rattle.twe_machine.specs.declared.ending.Outcome.TheVariants.{Unfinished};
-ghost use Rattle.twe_machine.specs.Runs.{IsOutcome};
+ghost use Rattle.machine_state.specs.declared.ending.Outcome.TheVariants.{Unfinished};
+ghost use Rattle.machine_state.specs.Runs.{IsOutcome};
 ghost use Rattle.floor_crew.specs.inner.GoingOn.{HasGoneOn, IsSound};
 ghost use Rattle.floor_crew.specs.inner.Keeping.{IsShapeOf};
 
 use crate::alone::{go_on_alone, take};
 use crate::at_rest::RunAtRest;
-use crate::book::Book;
 use crate::quiet::next_move;
-use crate::rest_setup::RestSetup;
 use crate::room::round_within;
-use crate::setup::Setup;
+use crate::round_setup::RoundSetup;
+use crate::task_book::TaskBook;
 use effect_tree::Shape;
-use run_gates::Gate;
 use std::alloc::Global;
 use std::sync::Wait;
 use std::thread::Threads;
+use steal_pool::gates::Gate;
 use twe_base::Memory;
 use twe_program::Prog;
+use twe_rounds::Setup;
 
 /// Takes moves at rest, and a round whenever two tasks may run beside each other, until no task may go on. If none was found that
 /// may and the run can go on, the lowest legal move comes first. Returns the run after that.
 pub(crate) fn go_on<R: Threads + Wait + Sync, G: Gate + Sync>(
     rt: &R,
-    setup: &RestSetup<'_>,
+    setup: &Setup<'_>,
     shape: &mut Option<Shape>,
     workers: u32,
     run: RunAtRest,
-    book: &mut Book,
+    book: &mut TaskBook,
     gate: &G,
 ) -> Result<RunAtRest, Memory>
     requires some { 1 ≤ workers }
@@ -55,7 +55,7 @@ pub(crate) fn go_on<R: Threads + Wait + Sync, G: Gate + Sync>(
 }
 
 /// Takes the lowest legal move, if the run can go on. Returns whether it can.
-fn take_lowest(setup: &RestSetup<'_>, run: &mut RunAtRest, book: &mut Book) -> Result<bool, Memory>
+fn take_lowest(setup: &Setup<'_>, run: &mut RunAtRest, book: &mut TaskBook) -> Result<bool, Memory>
     requires { IsSound setup.now.p.now setup.now.lim run.old }
     ensures gone { OnOk result (HasGoneOn setup.now.p.now setup.now.lim run.old.rest.journal run.new) }
     ensures moved { IfOk result (λ moved. IsTrue moved → length run.old.rest.journal < length run.new.rest.journal) }
@@ -73,11 +73,11 @@ fn take_lowest(setup: &RestSetup<'_>, run: &mut RunAtRest, book: &mut Book) -> R
 #[tactic(auto, using(crate::proofs::GoingOn::still_there, crate::proofs::GoingOn::gone_on))]
 fn go_on_from<R: Threads + Wait + Sync, G: Gate + Sync>(
     rt: &R,
-    setup: &RestSetup<'_>,
+    setup: &Setup<'_>,
     shape: &mut Option<Shape>,
     workers: u32,
     run: RunAtRest,
-    book: &mut Book,
+    book: &mut TaskBook,
     gate: &G,
 ) -> Result<RunAtRest, Memory>
     requires some { 1 ≤ workers }
@@ -95,13 +95,15 @@ fn go_on_from<R: Threads + Wait + Sync, G: Gate + Sync>(
         let tree = kept_or_built(setup.alloc, setup.p, shape.take())?;
         let room = book.account.room(setup.lim, &run.rest.state);
         book.account.lay_out(room, tree.nodes(), &run.rest);
-        let round = Setup {
+        let round = RoundSetup {
             alloc: setup.alloc,
             p: setup.p,
             lim: setup.lim,
             shape: &tree,
+            workers,
+            gate,
         };
-        run = side_by_side(rt, &round, workers, room, run, gate)?;
+        run = side_by_side(rt, &round, room, run)?;
         *shape = Some(tree);
         book.account.recount(setup.lim, &run.rest);
         book.begin_anew(&run.rest.state, run.rest.journal.len())?;
@@ -124,18 +126,16 @@ fn kept_or_built(alloc: Global, p: &Prog, kept: Option<Shape>) -> Result<Shape, 
 /// short, or once there is room for no more.
 fn side_by_side<R: Threads + Wait + Sync, G: Gate + Sync>(
     rt: &R,
-    setup: &Setup<'_>,
-    workers: u32,
+    setup: &RoundSetup<'_, G>,
     room: u32,
     run: RunAtRest,
-    gate: &G,
 ) -> Result<RunAtRest, Memory>
-    requires some { 1 ≤ workers }
+    requires some { 1 ≤ setup.now.workers }
     requires accepted { KeepsEffects setup.now.p.now }
     requires sound { IsSound setup.now.p.now setup.now.lim run }
     ensures { IfOk result (HasGoneOn setup.now.p.now setup.now.lim run.rest.journal) }
 {
     let RunAtRest { rest, .. } = run;
-    let rest = round_within(rt, setup, workers, room, rest, gate)?;
+    let rest = round_within(rt, setup, room, rest)?;
     RunAtRest::of(setup.alloc, setup.p, setup.lim, rest)
 }

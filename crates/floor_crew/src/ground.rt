@@ -1,24 +1,24 @@
-//! The floor of a round, with what every worker knows: the program that is run, its limits and the shape of its tree.
+//! The floor of a round, with what every worker knows: where it serves, which tasks were found to wait, and whether the round is to
+//! end.
 ghost use Rattle.std.specs.Prelude.{◌≡◌, ◌<◌, IfOk};
 ghost use Rattle.floor_crew.specs.inner.Lent.{IsOtherOn};
 
+use crate::held_tasks::HeldTasks;
 use crate::located::Located;
-use crate::setup::Setup;
 use crate::waiters::Waiters;
-use floor_rule::Phase;
-use floor_table::Named;
-use floor_table::nodes::Planted;
-use run_gates::Gate;
+use floor_laws::rule::Phase;
+use floor_laws::table::Named;
+use floor_laws::table::nodes::Planted;
 use std::alloc::Global;
 use std::marker::{Model, PhantomData};
 use std::sync::Wait;
 use std::sync::atomic::{AtomicBool, Ordering};
 use std::thread;
-use task_floor::Floor;
+use steal_pool::gates::Gate;
 use task_floor::steps::Served;
 use tree_admit::serving::{Admission, TreeWorker, Workshop};
 use twe_base::Memory;
-use twe_rounds::{MOST_WAITS, Outlook};
+use twe_rounds::{HeldAt, MOST_WAITS, Outlook};
 
 /// How often an admission is tried again at once.
 const MOST_TRIES: u32 = 16;
@@ -26,8 +26,8 @@ const MOST_TRIES: u32 = 16;
 /// The floor of a round.
 #[derive(Drop)]
 pub(crate) struct Ground<'a, N: Named + Planted, F: Located> {
-    setup: &'a Setup<'a>,
-    floor: &'a Floor<N>,
+    // The floor with its nodes, the program that is run, its limits and the shape of its tree.
+    shop: Workshop<'a, N>,
     // Whether the round is to end: some task has met a fault, a worker has found that tasks are short, or there is room for no
     // further task. Then no worker begins a segment.
     is_over: AtomicBool,
@@ -35,67 +35,46 @@ pub(crate) struct Ground<'a, N: Named + Planted, F: Located> {
     full: u32,
     // Which tasks were found to wait.
     waiters: Waiters,
+    // Which tasks were found held.
+    held: HeldTasks,
     of: PhantomData<F>,
 }
 
 impl<'a, N: Named + Planted, F: Located> Model for Ground<'a, N, F> {
     ghost use Rattle.std.specs.Prelude.{◌≡◌};
-    ghost use Rattle.twe_base.specs.Limits.{Bounds};
+    ghost use Rattle.atomic_table.specs.Seated.{TableId};
 
-    ghost Value = { Bounds };
+    ghost Value = { TableId };
 
-    ghost view = { λ ground. ground.setup.now.lim };
+    ghost view = { λ ground. ground.shop };
 
-    ghost invariant = { λ ground. (ground.floor.now ≡ F.table) × (ground.setup.now.p.now ≡ N.prog)
-        × (ground.setup.now.lim ≡ N.lim) × (ground.setup.now.shape.now ≡ N.nodes) };
+    ghost invariant = { λ ground. ground.shop ≡ F.table };
 }
 
 impl<'a, N: Named + Planted, F: Located> Ground<'a, N, F> {
     /// The ground of a round on this floor, which ends once a task with the number `full` or a higher one was made.
-    pub(crate) fn new(
-        setup: &'a Setup<'a>,
-        floor: &'a Floor<N>,
-        waiters: Waiters,
-        full: u32,
-    ) -> Self
-        requires located { floor.now ≡ F.table }
-        requires named { (setup.now.p.now ≡ N.prog) × (setup.now.lim ≡ N.lim) × (setup.now.shape.now ≡ N.nodes) }
+    pub(crate) fn new(shop: Workshop<'a, N>, waiters: Waiters, held: HeldTasks, full: u32) -> Self
+        requires { shop ≡ F.table }
     {
         Ground {
-            setup,
-            floor,
+            shop,
             is_over: AtomicBool::new(false),
             full,
             waiters,
+            held,
             of: PhantomData,
         }
     }
 
-    /// Where workers serve on this ground.
-    fn shop(&self) -> Workshop<'a, N>
-        ensures { result ≡ F.table }
-    {
-        let setup = self.setup;
-        Workshop::new(setup.alloc, setup.p, setup.lim, setup.shape, self.floor)
-    }
-
-    /// How many tasks may be made.
-    fn most_tasks(&self) -> u32
-        ensures { result ≡ N.lim.tasks }
-    {
-        let lim = self.setup.lim;
-        lim.tasks
-    }
-
     /// What may be done next for a task. A task that was made is admitted if it may be. After `Memory` the worker is gone.
-    pub(crate) fn look<R: Wait>(
+    pub(crate) fn outlook<R: Wait>(
         &self,
         rt: &R,
         worker: TreeWorker,
         task: u32,
     ) -> Result<(TreeWorker, Outlook), Memory>
         requires { IsOtherOn F.table worker }
-        ensures { IfOk result (λ looked. IsOtherOn F.table looked.0) }
+        ensures { IfOk result (λ found. IsOtherOn F.table found.0) }
     {
         let mut worker = worker;
         if self.is_over.load(Ordering::SeqCst) {
@@ -104,18 +83,18 @@ impl<'a, N: Named + Planted, F: Located> Ground<'a, N, F> {
         if self.phase(&mut worker, task) == Phase::Made {
             return self.admit(rt, worker, task);
         }
-        let look = self.look_at_admitted(&mut worker, task);
-        Ok((worker, look))
+        let outlook = self.outlook_of_admitted(&mut worker, task);
+        Ok((worker, outlook))
     }
 
     /// What may be done next for a task that was admitted.
-    fn look_at_admitted(&self, worker: &mut TreeWorker, task: u32) -> Outlook
+    fn outlook_of_admitted(&self, worker: &mut TreeWorker, task: u32) -> Outlook
         requires { IsOtherOn F.table worker.old }
         ensures { IsOtherOn F.table worker.new }
     {
         match self.phase(worker, task) {
             Phase::Running => Outlook::Runs,
-            Phase::Waits { on } => self.look_at_wait(worker, on),
+            Phase::Waits { on } => self.outlook_of_waiting(worker, on),
             _ => Outlook::Over,
         }
     }
@@ -129,21 +108,21 @@ impl<'a, N: Named + Planted, F: Located> Ground<'a, N, F> {
         task: u32,
     ) -> Result<(TreeWorker, Outlook), Memory>
         requires { IsOtherOn F.table worker }
-        ensures { IfOk result (λ looked. IsOtherOn F.table looked.0) }
+        ensures { IfOk result (λ found. IsOtherOn F.table found.0) }
     {
         let mut worker = worker;
         'tries: for _ in 0..MOST_TRIES {
-            let (other, look) = self.try_once(rt, worker, task)?;
+            let (other, outlook) = self.try_once(rt, worker, task)?;
             worker = other;
-            if let Some(look) = look
-                && !self.is_soon_other(&mut worker, look, task)
+            if let Some(found) = outlook
+                && !self.is_soon_other(&mut worker, found, task)
             {
-                return Ok((worker, look));
+                return Ok((worker, found));
             }
             thread::yield_now();
         }
-        let (worker, look) = self.try_once(rt, worker, task)?;
-        Ok((worker, look.unwrap_or(Outlook::Over)))
+        let (worker, outlook) = self.try_once(rt, worker, task)?;
+        Ok((worker, outlook.unwrap_or(Outlook::Over)))
     }
 
     /// Tries once to admit a task. `None` if another worker has its turn.
@@ -154,28 +133,28 @@ impl<'a, N: Named + Planted, F: Located> Ground<'a, N, F> {
         task: u32,
     ) -> Result<(TreeWorker, Option<Outlook>), Memory>
         requires { IsOtherOn F.table worker }
-        ensures { IfOk result (λ looked. IsOtherOn F.table looked.0) }
+        ensures { IfOk result (λ found. IsOtherOn F.table found.0) }
     {
-        if task >= self.most_tasks() {
+        if task >= self.shop.tasks() {
             return Ok((worker, Some(Outlook::Over)));
         }
-        let (mut worker, admission) = self.shop().admit(rt, worker, task)?;
-        let look = match admission {
+        let (mut worker, admission) = self.shop.admit(rt, worker, task)?;
+        let outlook = match admission {
             Admission::Admitted => Some(Outlook::Runs),
             Admission::Held { by } => Some(Outlook::Held { by }),
             // This worker had the turn for a moment, and whoever wanted to go on with the task then has left it to this one.
-            Admission::Over => Some(self.look_at_admitted(&mut worker, task)),
+            Admission::Over => Some(self.outlook_of_admitted(&mut worker, task)),
             Admission::Busy { .. } => None,
         };
-        Ok((worker, look))
+        Ok((worker, outlook))
     }
 
     /// Whether what was found of a task that is still to be admitted is about to change, since what held it is about to go.
-    fn is_soon_other(&self, worker: &mut TreeWorker, look: Outlook, task: u32) -> bool
+    fn is_soon_other(&self, worker: &mut TreeWorker, outlook: Outlook, task: u32) -> bool
         requires { IsOtherOn F.table worker.old }
         ensures { IsOtherOn F.table worker.new }
     {
-        match look {
+        match outlook {
             Outlook::Held { by } => self.may_go_soon(worker, by, task),
             _ => false,
         }
@@ -206,7 +185,7 @@ impl<'a, N: Named + Planted, F: Located> Ground<'a, N, F> {
 
     /// What may be done next for a task that waits for `on`. If the chain of waits from there is short and ends at a task that is
     /// still to be admitted, that one is to be looked at next.
-    fn look_at_wait(&self, worker: &mut TreeWorker, on: u32) -> Outlook
+    fn outlook_of_waiting(&self, worker: &mut TreeWorker, on: u32) -> Outlook
         requires { IsOtherOn F.table worker.old }
         ensures { IsOtherOn F.table worker.new }
     {
@@ -227,8 +206,8 @@ impl<'a, N: Named + Planted, F: Located> Ground<'a, N, F> {
         requires { IsOtherOn F.table worker.old }
         ensures { IsOtherOn F.table worker.new }
     {
-        if task < self.most_tasks() {
-            self.shop().glance(worker, task)
+        if task < self.shop.tasks() {
+            self.shop.phase(worker, task)
         } else {
             Phase::Absent
         }
@@ -245,10 +224,10 @@ impl<'a, N: Named + Planted, F: Located> Ground<'a, N, F> {
         requires { IsOtherOn F.table worker }
         ensures { IfOk result (λ served. IsOtherOn F.table served.0) }
     {
-        if task >= self.most_tasks() {
+        if task >= self.shop.tasks() {
             return Ok((worker, None));
         }
-        let (worker, served) = self.shop().serve(rt, worker, task, gate)?;
+        let (worker, served) = self.shop.serve(rt, worker, task, gate)?;
         Ok((worker, Some(served)))
     }
 
@@ -260,6 +239,21 @@ impl<'a, N: Named + Planted, F: Located> Ground<'a, N, F> {
     /// The task that was found to wait for this one, if one was.
     pub(crate) fn waiter_of(&self, task: u32) -> Option<u32> {
         self.waiters.of(task)
+    }
+
+    /// Keeps a task that was found held beside its bar.
+    pub(crate) fn keep_held(&self, task: u32, by: u32) -> HeldAt {
+        self.held.keep(task, by)
+    }
+
+    /// A task has ended: the first of those that were found held by it.
+    pub(crate) fn first_freed(&self, task: u32) -> Option<u32> {
+        self.held.end(task)
+    }
+
+    /// Takes a freed task off its list, and returns the one after it.
+    pub(crate) fn take_freed(&self, task: u32) -> Option<u32> {
+        self.held.take(task)
     }
 
     /// Whether the floor has no room for further tasks after this one.
@@ -274,7 +268,7 @@ impl<'a, N: Named + Planted, F: Located> Ground<'a, N, F> {
 
     /// Where memory comes from.
     pub(crate) fn alloc(&self) -> Global {
-        self.setup.alloc
+        self.shop.alloc()
     }
 }
 

@@ -3,27 +3,27 @@ ghost use Rattle.std.specs.Prelude.{IfSome};
 ghost use Rattle.floor_crew.specs.inner.Lent.{IsOtherOn};
 
 use crate::account::are_short;
-use crate::ended::Ended;
+use crate::ended_tasks::EndedTasks;
 use crate::ground::Ground;
 use crate::located::Located;
-use floor_rule::Phase;
-use floor_table::Named;
-use floor_table::nodes::Planted;
-use run_gates::Gate;
+use floor_laws::rule::Phase;
+use floor_laws::table::Named;
+use floor_laws::table::nodes::Planted;
 use seg_journal::End;
 use std::marker::Model;
 use std::sync::Wait;
+use steal_pool::gates::Gate;
 use task_floor::Tally;
 use task_floor::steps::Served;
 use tree_admit::serving::TreeWorker;
 use twe_base::Memory;
-use twe_rounds::{Outlook, RoundAccess, Waiting, lost};
+use twe_rounds::{HeldAt, Outlook, RoundAccess, Waiting, lost};
 
 /// How many of the latest awaited tasks a worker looks at before it goes on. In a chain of waits these end first.
 const LATEST: usize = 4;
 
 /// How many others of them it looks at then.
-const GLANCES: usize = 28;
+const OTHERS: usize = 28;
 
 /// How many tasks a worker ends before it asks whether they were short.
 const ENOUGH_TASKS: u64 = 64;
@@ -39,7 +39,7 @@ pub(crate) struct OnFloor<'a, R: Wait, N: Named + Planted, F: Located, G> {
     worker: Option<TreeWorker>,
     // A task whose turn another worker had. That one goes on with it.
     busy: Option<u32>,
-    ended: Ended,
+    ended: EndedTasks,
     // What it had ended when it last asked whether tasks are short.
     asked: Tally,
 }
@@ -72,7 +72,7 @@ impl<'a, R: Wait, N: Named + Planted, F: Located, G: Gate> OnFloor<'a, R, N, F, 
             gate,
             worker,
             busy: None,
-            ended: Ended::new(ground.alloc()),
+            ended: EndedTasks::new(ground.alloc()),
             asked: Tally::default(),
         }
     }
@@ -87,9 +87,9 @@ impl<'a, R: Wait, N: Named + Planted, F: Located, G: Gate> OnFloor<'a, R, N, F, 
 
     /// Looks at a few of the tasks for which others of this worker's list wait or by which they are held back, and notes which of
     /// them have ended.
-    fn glance(&mut self) -> Result<(), Memory> {
-        self.glance_at_latest()?;
-        for _ in 0..GLANCES {
+    fn look_for_ended(&mut self) -> Result<(), Memory> {
+        self.look_at_latest()?;
+        for _ in 0..OTHERS {
             let Some(task) = self.ended.next_awaited() else {
                 return Ok(());
             };
@@ -99,7 +99,7 @@ impl<'a, R: Wait, N: Named + Planted, F: Located, G: Gate> OnFloor<'a, R, N, F, 
     }
 
     /// Looks at the latest awaited tasks. If one has ended, the one before it takes its place.
-    fn glance_at_latest(&mut self) -> Result<(), Memory> {
+    fn look_at_latest(&mut self) -> Result<(), Memory> {
         let mut back = 0usize;
         for _ in 0..LATEST {
             let Some(task) = self.ended.latest_awaited(back) else {
@@ -124,15 +124,27 @@ impl<'a, R: Wait, N: Named + Planted, F: Located, G: Gate> OnFloor<'a, R, N, F, 
     }
 
     /// Notes for which task one waits, or which task holds it back.
-    fn await_end(&mut self, task: u32, look: Outlook) -> Result<(), Memory> {
-        match look {
+    fn await_end(&mut self, task: u32, outlook: Outlook) -> Result<(), Memory> {
+        match outlook {
             Outlook::Waits { on, .. } => {
                 self.ground.note_wait(task, on);
                 self.ended.await_end(on)
             }
-            Outlook::Held { by } => self.ended.await_end(by),
             _ => Ok(()),
         }
+    }
+
+    /// Takes the tasks that a task held, which has ended.
+    fn free_held(&mut self, bar: u32) -> Result<(), Memory> {
+        let mut at = self.ground.first_freed(bar);
+        'freeing: for _ in 0..u64::MAX {
+            let Some(task) = at else {
+                return Ok(());
+            };
+            at = self.ground.take_freed(task);
+            self.ended.free(task)?;
+        }
+        Ok(())
     }
 
     /// Asks, once this worker has ended some more tasks, whether they were short. Then the round is to end.
@@ -157,7 +169,8 @@ impl<'a, R: Wait, N: Named + Planted, F: Located, G: Gate> OnFloor<'a, R, N, F, 
         match end {
             End::Done { .. } => {
                 self.ask_for_length();
-                self.ended.end(task, self.ground.waiter_of(task))
+                self.ended.end(task, self.ground.waiter_of(task))?;
+                self.free_held(task)
             }
             End::Fault { .. } => {
                 self.ground.stop();
@@ -175,17 +188,17 @@ impl<'a, R: Wait, N: Named + Planted, F: Located, G: Gate> OnFloor<'a, R, N, F, 
 }
 
 impl<'a, R: Wait, N: Named + Planted, F: Located, G: Gate> RoundAccess for OnFloor<'a, R, N, F, G> {
-    fn look(&mut self, task: u32) -> Result<Outlook, Memory> {
+    fn outlook(&mut self, task: u32) -> Result<Outlook, Memory> {
         if self.busy.take() == Some(task) {
             return Ok(Outlook::Over);
         }
         let Some(worker) = self.worker.take() else {
             return Err(lost());
         };
-        let (worker, look) = self.ground.look(self.rt, worker, task)?;
+        let (worker, outlook) = self.ground.outlook(self.rt, worker, task)?;
         self.worker = Some(worker);
-        self.await_end(task, look)?;
-        Ok(look)
+        self.await_end(task, outlook)?;
+        Ok(outlook)
     }
 
     fn run(&mut self, task: u32) -> Result<Option<End>, Memory> {
@@ -207,8 +220,16 @@ impl<'a, R: Wait, N: Named + Planted, F: Located, G: Gate> RoundAccess for OnFlo
         }
     }
 
+    fn keep(&mut self, task: u32, by: u32) -> Result<HeldAt, Memory> {
+        let kept = self.ground.keep_held(task, by);
+        if kept == HeldAt::Nowhere {
+            self.ended.await_end(by)?;
+        }
+        Ok(kept)
+    }
+
     fn tell(&mut self, waiting: &mut Waiting) -> Result<(), Memory> {
-        self.glance()?;
+        self.look_for_ended()?;
         self.ended.tell(waiting)
     }
 }

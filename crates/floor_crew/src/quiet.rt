@@ -1,11 +1,12 @@
 //! The next move of a run at rest, in the order of the tasks' numbers.
 ghost use Rattle.std.specs.Prelude.{IfSome, IfNone};
-ghost use Rattle.twe_machine.specs.declared.ending.Outcome.TheVariants.{Unfinished};
-ghost use Rattle.twe_machine.specs.LowestFirst.{IsLowest};
-ghost use Rattle.twe_machine.specs.Runs.{IsOutcome, IsReachable};
+ghost use Rattle.machine_state.specs.declared.ending.Outcome.TheVariants.{Unfinished};
+ghost use Rattle.machine_state.specs.LowestFirst.{IsLowest};
+ghost use Rattle.machine_state.specs.Runs.{IsOutcome, IsReachable};
 
+use machine_state::State;
 use seg_journal::Move;
-use twe_machine::{State, lowest};
+use twe_machine::lowest;
 use twe_program::Prog;
 
 /// The lowest legal move of a run that can go on; `None` if it cannot.

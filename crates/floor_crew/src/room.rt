@@ -3,35 +3,33 @@
 //! It is a round under a lower limit on tasks. As long as fewer tasks were asked for than that, the journal and the state are the
 //! same under both limits. The workers stop before a task is made for which there is no room. If one was asked for all the same,
 //! the run goes on from where it was before the round.
-ghost use Rattle.std.specs.Prelude.{◌≡◌, ◌≤◌, IfOk, map};
+ghost use Rattle.std.specs.Prelude.{◌≡◌, ◌≤◌, IfOk};
 ghost use mathlib.Core.List.{IsPrefix};
-ghost use Rattle.seg_journal.specs.Spelling.{move_of};
 ghost use Rattle.isolation_laws.specs.soundness.KeepsEffects.{KeepsEffects};
-ghost use Rattle.twe_machine.specs.Runs.{IsRun, Legal};
+ghost use Rattle.machine_state.specs.Runs.{IsRun, Legal};
 
 use crate::round::round;
-use crate::setup::Setup;
-use run_gates::Gate;
-use seg_journal::{Entry, Moves};
+use crate::round_setup::RoundSetup;
+use machine_state::{ReplayFail, moves_make_the_journal, one_first_illegal};
+use seg_journal::{Entry, moves_of};
 use std::alloc::Global;
 use std::marker::Brand;
 use std::sync::Wait;
 use std::thread::Threads;
+use steal_pool::gates::Gate;
 use task_floor::steps::Rest;
 use twe_base::{Limits, Memory};
-use twe_machine::{ReplayFail, moves_make_the_journal, one_first_illegal, replay_journal};
+use twe_machine::replay_journal;
 
-/// A round of so many workers on a floor with room for so many tasks, or for all that may be made. Returns the run after that,
+/// A round on a floor with room for so many tasks, or for all that may be made. Returns the run after that,
 /// whose journal begins with the one from before.
 pub(crate) fn round_within<R: Threads + Wait + Sync, G: Gate + Sync>(
     rt: &R,
-    setup: &Setup<'_>,
-    workers: u32,
+    setup: &RoundSetup<'_, G>,
     room: u32,
     rest: Rest,
-    gate: &G,
 ) -> Result<Rest, Memory>
-    requires some { 1 ≤ workers }
+    requires some { 1 ≤ setup.now.workers }
     requires accepted { KeepsEffects setup.now.p.now }
     requires run { IsRun setup.now.p.now setup.now.lim rest.journal rest.state }
     ensures run { IfOk result (λ after. IsRun setup.now.p.now setup.now.lim after.journal after.state) }
@@ -39,10 +37,10 @@ pub(crate) fn round_within<R: Threads + Wait + Sync, G: Gate + Sync>(
 {
     let (p, lim) = (setup.p, setup.lim);
     if room >= lim.tasks || rest.state.asked >= room {
-        return on_own_floor(rt, setup, workers, u32::MAX, rest, gate);
+        return on_own_floor(rt, setup, u32::MAX, rest);
     }
     let before = rest.journal.len();
-    let lower = Setup {
+    let lower = RoundSetup {
         alloc: setup.alloc,
         p,
         lim: Limits {
@@ -50,9 +48,11 @@ pub(crate) fn round_within<R: Threads + Wait + Sync, G: Gate + Sync>(
             tasks: room,
         },
         shape: setup.shape,
+        workers: setup.workers,
+        gate: setup.gate,
     };
-    let full = room.saturating_sub(workers);
-    let after = on_own_floor(rt, &lower, workers, full, rest, gate)?;
+    let full = room.saturating_sub(setup.workers);
+    let after = on_own_floor(rt, &lower, full, rest)?;
     if after.state.asked < room {
         return Ok(after);
     }
@@ -62,23 +62,21 @@ pub(crate) fn round_within<R: Threads + Wait + Sync, G: Gate + Sync>(
 /// A round on a floor that is laid out for it.
 fn on_own_floor<R: Threads + Wait + Sync, G: Gate + Sync>(
     rt: &R,
-    setup: &Setup<'_>,
-    workers: u32,
+    setup: &RoundSetup<'_, G>,
     full: u32,
     rest: Rest,
-    gate: &G,
 ) -> Result<Rest, Memory>
-    requires some { 1 ≤ workers }
+    requires some { 1 ≤ setup.now.workers }
     requires accepted { KeepsEffects setup.now.p.now }
     requires run { IsRun setup.now.p.now setup.now.lim rest.journal rest.state }
     ensures run { IfOk result (λ after. IsRun setup.now.p.now setup.now.lim after.journal after.state) }
     ensures begins { IfOk result (λ after. IsPrefix rest.journal after.journal) }
 {
-    round::<Brand, R, G>(rt, setup, workers, full, rest, gate)
+    round::<Brand, R, G>(rt, setup, full, rest)
 }
 
 /// The run that has these entries.
-fn go_back(setup: &Setup<'_>, entries: &[Entry]) -> Result<Rest, Memory>
+fn go_back<G>(setup: &RoundSetup<'_, G>, entries: &[Entry]) -> Result<Rest, Memory>
     requires { Legal setup.now.p.now setup.now.lim entries.now }
     ensures run { IfOk result (λ back. IsRun setup.now.p.now setup.now.lim back.journal back.state) }
     ensures same { IfOk result (λ back. back.journal ≡ entries.now) }
@@ -93,15 +91,4 @@ fn go_back(setup: &Setup<'_>, entries: &[Entry]) -> Result<Rest, Memory>
         Err(ReplayFail::Illegal { .. }) => unreachable!(),
         Err(ReplayFail::OutOfMemory(memory)) => Err(memory),
     }
-}
-
-/// The moves of the entries, in order.
-fn moves_of(alloc: Global, entries: &[Entry]) -> Result<Moves, Memory>
-    ensures { IfOk result (λ moves. moves ≡ map move_of entries.now) }
-{
-    let mut moves = Moves::new(alloc);
-    for entry in entries {
-        moves.push(entry.mv)?;
-    }
-    Ok(moves)
 }

@@ -1,12 +1,12 @@
 //! The beginning of a run: it is run lowest first, as it is without workers, as long as its segments are known to be short.
 
+use crate::body_place::{BodyPlace, body_place_of};
 use crate::brief::{is_at_start, is_brief, starts_brief};
-use crate::standing::{Standing, standing_of};
 use flat_sched::Lookout;
+use machine_state::State;
 use seg_journal::{Kind, Move};
 use std::alloc::Global;
 use twe_base::{List, Memory};
-use twe_machine::State;
 use twe_program::Prog;
 
 /// For how many places of each declaration it is kept that a segment from there is short.
@@ -20,7 +20,7 @@ pub(crate) struct UntilLong {
     starts: List<bool>,
     // For each declaration some places where a task of it stood whose next segment was found to be short. In a loop the next one
     // stands there too.
-    short_at: List<Option<Standing>>,
+    short_at: List<Option<BodyPlace>>,
     // How many tasks were looked at when they were made. `main` is not.
     seen: u32,
 }
@@ -67,7 +67,7 @@ impl UntilLong {
         let Some(row) = st.tasks.get(task as usize) else {
             return false;
         };
-        let Some(standing) = standing_of(&row.frame) else {
+        let Some(standing) = body_place_of(&row.frame) else {
             return is_brief(p, &row.frame);
         };
         let at = place_of(row.frame.decl, standing);
@@ -98,7 +98,7 @@ impl Lookout for UntilLong {
 }
 
 /// Where it is kept that a segment from there is short. Statements that follow one another have different places.
-fn place_of(decl: u32, standing: Standing) -> usize {
+fn place_of(decl: u32, standing: BodyPlace) -> usize {
     (decl as usize)
         .saturating_mul(PLACES)
         .saturating_add(standing.innermost().after % PLACES)

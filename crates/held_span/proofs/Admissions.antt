@@ -14,20 +14,20 @@ use Rattle.wait_graph.specs.declared.tasks.Link.{Link}
 use Rattle.wait_graph.specs.Link.{link_of}
 use Rattle.wait_graph.specs.Waiting.{IsDone, WaitsFor, WaitsOn}
 use Rattle.wait_graph.proofs.ChainLemmas.{Chain-append, Chain-stays}
-use Rattle.twe_machine.specs.declared.state.State.{State}
-use Rattle.twe_machine.specs.declared.state.TaskRow.{TaskRow}
-use Rattle.twe_machine.specs.declared.state.TaskStatus.{TaskStatus}
-use Rattle.twe_machine.specs.declared.state.TaskStatus.TheVariants.{Done, Enabled, Faulted, Made}
-use Rattle.twe_machine.specs.Legal.{Interfere, MayAdmit}
-use Rattle.twe_machine.specs.Rows.{HasStatus, IsRow, row_awaited}
-use Rattle.twe_machine.specs.Runs.{Legal, state_after}
-use Rattle.twe_machine.proofs.links.Ordered.{waits_up}
-use Rattle.twe_machine.proofs.links.TakenJoins.{row_link}
-use Rattle.twe_machine.proofs.lists.Places.{got_one}
-use Rattle.twe_machine.proofs.standing.Later.{Later}
-use Rattle.twe_machine.proofs.standing.Standing.{IsOver, Stands}
-use Rattle.twe_machine.proofs.tasks.MadeTasks.{free_by, made_row, orphan_by, yields_by}
-use Rattle.twe_machine.proofs.tasks.OtherTasks.{waits_row}
+use Rattle.machine_state.specs.declared.state.State.{State}
+use Rattle.machine_state.specs.declared.state.TaskRow.{TaskRow}
+use Rattle.machine_state.specs.declared.state.TaskStatus.{TaskStatus}
+use Rattle.machine_state.specs.declared.state.TaskStatus.TheVariants.{Done, Enabled, Faulted, Made}
+use Rattle.machine_state.specs.Legal.{Interfere, MayAdmit}
+use Rattle.machine_state.specs.Rows.{HasStatus, IsRow, row_awaited}
+use Rattle.machine_state.specs.Runs.{Legal, state_after}
+use Rattle.machine_state.proofs.links.Ordered.{waits_up}
+use Rattle.machine_state.proofs.links.TakenJoins.{row_link}
+use Rattle.machine_state.proofs.lists.Places.{got_one}
+use Rattle.machine_state.proofs.standing.Later.{Later}
+use Rattle.machine_state.proofs.standing.Standing.{IsOver, Stands}
+use Rattle.machine_state.proofs.tasks.MadeTasks.{free_by, made_row, orphan_by, yields_by}
+use Rattle.machine_state.proofs.tasks.OtherTasks.{waits_row}
 use Rattle.isolation_laws.proofs.rows.LinksOfRows.{enabled_undone}
 use Rattle.held_span.specs.Marks.{AreMarksOf, seen_by}
 use Rattle.held_span.specs.declared.marks.EffectMarks.{EffectMarks}

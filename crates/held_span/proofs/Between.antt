@@ -6,11 +6,11 @@ use Rattle.seg_journal.specs.declared.journal.Entry.{Entry}
 use Rattle.seg_journal.specs.declared.moves.Move.{Move}
 use Rattle.twe_base.specs.Limits.{Bounds}
 use Rattle.twe_program.specs.Program.{Program}
-use Rattle.twe_machine.specs.declared.state.State.{State}
-use Rattle.twe_machine.specs.declared.state.TaskRow.{TaskRow}
-use Rattle.twe_machine.specs.Moves.{move_result, start_of}
-use Rattle.twe_machine.specs.Runs.{counted}
-use Rattle.twe_machine.proofs.replays.Replayed.{one_from}
+use Rattle.machine_state.specs.declared.state.State.{State}
+use Rattle.machine_state.specs.declared.state.TaskRow.{TaskRow}
+use Rattle.machine_state.specs.Moves.{move_result, start_of}
+use Rattle.machine_state.specs.Runs.{counted}
+use Rattle.machine_state.proofs.replays.Replayed.{one_from}
 use Rattle.span_profile.specs.heaviest_chain.Chains.{IsChain, IsChainOf, IsHeaviest, Leads, chain_weight, weight_at, weight_of_found}
 use Rattle.span_profile.specs.LeadsTo.{LeadsTo}
 use Rattle.span_profile.specs.Profiles.{IsProfile}

@@ -20,12 +20,12 @@ use Rattle.twe_base.specs.Limits.{Bounds}
 use Rattle.twe_program.specs.declared.program.Decl.{Decl}
 use Rattle.twe_program.specs.Program.{Program}
 use Rattle.twe_program.specs.WellFormed.{IsWellFormed}
-use Rattle.seg_exec.specs.Entry.{effects_of}
-use Rattle.twe_machine.specs.declared.state.State.{State}
-use Rattle.twe_machine.specs.declared.state.TaskRow.{TaskRow}
-use Rattle.twe_machine.specs.Runs.{IsReached}
-use Rattle.twe_machine.proofs.standing.ReachedStands.{reached_stands}
-use Rattle.twe_machine.proofs.tasks.Filled.{reached_filled}
+use Rattle.seg_meaning.specs.Entry.{effects_of}
+use Rattle.machine_state.specs.declared.state.State.{State}
+use Rattle.machine_state.specs.declared.state.TaskRow.{TaskRow}
+use Rattle.machine_state.specs.Runs.{IsReached}
+use Rattle.machine_state.proofs.standing.ReachedStands.{reached_stands}
+use Rattle.machine_state.proofs.tasks.Filled.{reached_filled}
 use Rattle.held_span.specs.OfHolds.{IsDeclared, IsOfHold}
 use Rattle.held_span.specs.Pairs.{interferes_with_one, pair_of}
 use Rattle.held_span.specs.declared.pair.EffectPair.{EffectPair}

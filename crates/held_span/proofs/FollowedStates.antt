@@ -11,15 +11,15 @@ use Rattle.twe_program.specs.Program.{Program}
 use Rattle.twe_program.specs.WellFormed.{IsWellFormed}
 use Rattle.wait_graph.specs.Chain.{Chain, none, more}
 use Rattle.wait_graph.specs.Waiting.{IsDone, WaitsFor}
-use Rattle.twe_machine.specs.declared.state.State.{State}
-use Rattle.twe_machine.specs.Changes.{LeavesAlone}
-use Rattle.twe_machine.specs.Legal.{MayMove}
-use Rattle.twe_machine.specs.Moves.{move_result}
-use Rattle.twe_machine.proofs.links.ChainsStay.{done_stays}
-use Rattle.twe_machine.proofs.lists.Places.{set_cases}
-use Rattle.twe_machine.proofs.standing.Standing.{Stands}
-use Rattle.twe_machine.proofs.tasks.MadeTasks.{mover_free}
-use Rattle.twe_machine.proofs.tasks.OtherTasks.{waits_row}
+use Rattle.machine_state.specs.declared.state.State.{State}
+use Rattle.machine_state.specs.Changes.{LeavesAlone}
+use Rattle.machine_state.specs.Legal.{MayMove}
+use Rattle.machine_state.specs.Moves.{move_result}
+use Rattle.machine_state.proofs.links.ChainsStay.{done_stays}
+use Rattle.machine_state.proofs.lists.Places.{set_cases}
+use Rattle.machine_state.proofs.standing.Standing.{Stands}
+use Rattle.machine_state.proofs.tasks.MadeTasks.{mover_free}
+use Rattle.machine_state.proofs.tasks.OtherTasks.{waits_row}
 use Rattle.held_span.proofs.Longer.{get-cases, get-kept, get-last}
 use Rattle.span_profile.specs.heaviest_chain.Chains.{Leads}
 use Rattle.span_profile.specs.heaviest_chain.Nodes.{Node, SharesKey}

@@ -1,12 +1,12 @@
 -- The held profile of a run whose entries were all taken.
 use Rattle.std.proofs.Common.{List, length}
-use Rattle.span_profile.specs.Timetables.{AreEarliest}
+use Rattle.schedules.specs.Timetables.{AreEarliest}
 use Rattle.seg_journal.specs.declared.journal.Entry.{Entry}
 use Rattle.seg_journal.specs.declared.moves.Move.{Move}
 use Rattle.twe_base.specs.Limits.{Bounds}
 use Rattle.twe_program.specs.Program.{Program}
-use Rattle.twe_machine.specs.declared.state.State.{State}
-use Rattle.twe_machine.specs.Moves.{start_of}
+use Rattle.machine_state.specs.declared.state.State.{State}
+use Rattle.machine_state.specs.Moves.{start_of}
 use Rattle.held_span.specs.declared.marks.EffectMarks.{EffectMarks}
 use Rattle.span_profile.specs.Advice.{IsCountedRun}
 use Rattle.span_profile.proofs.Lists.{zip_length}

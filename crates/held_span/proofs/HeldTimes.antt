@@ -4,8 +4,8 @@ use Rattle.std.proofs.Common.{◌≡◌, ◌<◌, ◌≤◌, inl, inr, ℕ, List
 use Rattle.std.specs.Prelude.{slice_index}
 use Rattle.std.proofs.lemmas.Option.{slice_get_within}
 use Rattle.prefix_tree.specs.declared.part.Part.{Part}
-use Rattle.span_profile.specs.Timetables.{AreEarliest}
-use Rattle.twe_machine.specs.declared.state.TaskRow.{TaskRow}
+use Rattle.schedules.specs.Timetables.{AreEarliest}
+use Rattle.machine_state.specs.declared.state.TaskRow.{TaskRow}
 use Rattle.held_span.specs.declared.marks.EffectMarks.{EffectMarks}
 use Rattle.span_profile.proofs.Lists.{zip_length}
 use Rattle.span_profile.specs.heaviest_chain.Chains.{Leads, weight_at}

@@ -10,14 +10,14 @@ use Rattle.twe_program.specs.Program.{Program}
 use Rattle.twe_program.specs.WellFormed.{IsWellFormed}
 use Rattle.wait_graph.specs.Chain.{none}
 use Rattle.wait_graph.specs.Waiting.{WaitsOn, WaitsOnUnlessDone}
-use Rattle.twe_machine.specs.declared.state.State.{State}
-use Rattle.twe_machine.specs.Changes.{LeavesAlone, made_by}
-use Rattle.twe_machine.specs.Legal.{MayMove}
-use Rattle.twe_machine.specs.Moves.{move_result}
-use Rattle.twe_machine.proofs.links.ChainsStay.{chain_stays}
-use Rattle.twe_machine.proofs.lists.Places.{set_cases}
-use Rattle.twe_machine.proofs.standing.Standing.{Stands}
-use Rattle.twe_machine.proofs.tasks.Movers.{mover_there}
+use Rattle.machine_state.specs.declared.state.State.{State}
+use Rattle.machine_state.specs.Changes.{LeavesAlone, made_by}
+use Rattle.machine_state.specs.Legal.{MayMove}
+use Rattle.machine_state.specs.Moves.{move_result}
+use Rattle.machine_state.proofs.links.ChainsStay.{chain_stays}
+use Rattle.machine_state.proofs.lists.Places.{set_cases}
+use Rattle.machine_state.proofs.standing.Standing.{Stands}
+use Rattle.machine_state.proofs.tasks.Movers.{mover_there}
 use Rattle.held_span.proofs.Longer.{get-cases, get-kept, get-last}
 use Rattle.held_span.specs.declared.ways.Ways.{Ways}
 use Rattle.held_span.specs.inner.Freeing.{Walks}

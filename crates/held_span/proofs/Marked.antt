@@ -8,7 +8,7 @@ use Rattle.std.proofs.lemmas.Bool.{false≢true}
 use Rattle.twe_base.proofs.Members.{contains-in, flat_map-in, in-contains}
 use Rattle.effect_sets.specs.Filled.{all_filled}
 use Rattle.effect_sets.specs.declared.effects.Effect.{Effect}
-use Rattle.twe_machine.specs.declared.state.TaskRow.{TaskRow}
+use Rattle.machine_state.specs.declared.state.TaskRow.{TaskRow}
 use Rattle.held_span.proofs.Longer.{listed-row}
 use Rattle.held_span.specs.Marks.{AreMarksOf, left_by, left_marks, seen_by, seen_marks}
 use Rattle.held_span.specs.Rivals.{AreNumbersOf, EffectList, IsNumberOf, interferes_found}

@@ -4,17 +4,17 @@ use Rattle.std.specs.BTreeMap as tree
 use Rattle.std.proofs.lemmas.List.{length-take}
 use Rattle.std.proofs.lemmas.List.Elements.{All-take}
 use Rattle.std.proofs.lemmas.List.Sorted.{All-permutation, Contains-permutation}
-use Rattle.twe_machine.specs.declared.state.TaskRow.{TaskRow}
+use Rattle.machine_state.specs.declared.state.TaskRow.{TaskRow}
 use Rattle.held_span.specs.MostHeld.{HasHeld, HeldMost}
 use Rattle.held_span.specs.inner.Ranks.{ranked}
 use Rattle.held_span.specs.inner.Tallies.{IsTally}
 use Rattle.held_span.specs.declared.pair.HeldPair.{HeldPair}
 use Rattle.held_span.specs.declared.hold.Hold.{Hold}
-use Rattle.held_span.specs.declared.tally.Tally.{Tally}
+use Rattle.held_span.specs.declared.tally.HoldTally.{HoldTally}
 use Rattle.held_span.proofs.Ranked.{first_in_order, first_or_later, ranked_has_all, ranked_in_order}
 use Rattle.held_span.proofs.Totals.{all_have_held, by_numbers, has_each}
 
-pub held_most : (rows : List TaskRow) (holds : List Hold) (tally : Tally) → IsTally rows holds tally
+pub held_most : (rows : List TaskRow) (holds : List Hold) (tally : HoldTally) → IsTally rows holds tally
     → HeldMost rows holds (take 3 (ranked (tree.values tally.pairs)))
 held_most rows holds tally tallied =
     let pairs = tree.values tally.pairs in

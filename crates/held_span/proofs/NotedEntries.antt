@@ -13,17 +13,17 @@ use Rattle.seg_journal.specs.declared.moves.Move.{Move}
 use Rattle.twe_base.specs.Limits.{Bounds}
 use Rattle.twe_program.specs.Program.{Program}
 use Rattle.twe_program.specs.WellFormed.{IsWellFormed}
-use Rattle.twe_machine.specs.declared.state.State.{State}
-use Rattle.twe_machine.specs.declared.state.TaskRow.{TaskRow}
-use Rattle.twe_machine.specs.declared.state.TaskStatus.TheVariants.{Done, Enabled, Made}
-use Rattle.twe_machine.specs.Changes.{LeavesAlone, made_by}
-use Rattle.twe_machine.specs.Legal.{MayMove, MayTake}
-use Rattle.twe_machine.specs.Moves.{move_result}
-use Rattle.twe_machine.specs.Rows.{HasStatus}
-use Rattle.twe_machine.specs.Runs.{is_done}
-use Rattle.twe_machine.proofs.lists.Places.{below_there}
-use Rattle.twe_machine.proofs.standing.Standing.{Stands}
-use Rattle.twe_machine.proofs.tasks.OtherTasks.{other}
+use Rattle.machine_state.specs.declared.state.State.{State}
+use Rattle.machine_state.specs.declared.state.TaskRow.{TaskRow}
+use Rattle.machine_state.specs.declared.state.TaskStatus.TheVariants.{Done, Enabled, Made}
+use Rattle.machine_state.specs.Changes.{LeavesAlone, made_by}
+use Rattle.machine_state.specs.Legal.{MayMove, MayTake}
+use Rattle.machine_state.specs.Moves.{move_result}
+use Rattle.machine_state.specs.Rows.{HasStatus}
+use Rattle.machine_state.specs.Runs.{is_done}
+use Rattle.machine_state.proofs.lists.Places.{below_there}
+use Rattle.machine_state.proofs.standing.Standing.{Stands}
+use Rattle.machine_state.proofs.tasks.OtherTasks.{other}
 use Rattle.held_span.proofs.Longer.{get-cases, get-kept, get-last}
 use Rattle.span_profile.proofs.Lists.{contains_none}
 use Rattle.span_profile.specs.LeadsTo.{LeadsTo, conflict, gives_value, makes, same_task}
@@ -32,7 +32,7 @@ use Rattle.span_profile.specs.heaviest_chain.Nodes.{Node, SharesKey}
 use Rattle.held_span.specs.Freed.{IsBy, RunEntry}
 use Rattle.held_span.specs.Holds.{MakesTask}
 use Rattle.held_span.specs.Ways.{IsOnWay}
-use Rattle.held_span.specs.declared.notes.Notes.{Notes}
+use Rattle.held_span.specs.declared.notes.EntryNotes.{EntryNotes}
 use Rattle.held_span.specs.inner.Noting.{AreNoted, HasBegun, MakesOrFrees, TellHolders, TellMakers, low_at, low_found, low_of, makers_after, noted}
 use Rattle.held_span.proofs.Admissions.{waiter_enabled}
 use Rattle.held_span.proofs.Ancestors.{first_step}
@@ -145,7 +145,7 @@ module _ (rows : List TaskRow) (nodes : List Node) (stages : List RunEntry) (man
 -- One entry more.
 module _ (p : Program) (lim : Bounds) (well : IsWellFormed p) (rows : List TaskRow) (st : State) (stands : Stands p lim st) (mv : Move) (end : End) (may : MayMove st mv)
     (end_is : (move_result p lim st mv).1 ≡ end) (alone : LeavesAlone p st (move_result p lim st mv).0 mv end) (nodes : List Node) (stages : List RunEntry) (many : length nodes ≡ length stages)
-    (notes : Notes) (noted_before : AreNoted rows st nodes stages notes) (y : Node) (b : RunEntry) (b_kind : b.kind ≡ mv.kind) (admits : b.kind ≡ Admit → b.strand ≡ admission mv.task) (b_makes : b.strand.made ≡ made_task end)
+    (notes : EntryNotes) (noted_before : AreNoted rows st nodes stages notes) (y : Node) (b : RunEntry) (b_kind : b.kind ≡ mv.kind) (admits : b.kind ≡ Admit → b.strand ≡ admission mv.task) (b_makes : b.strand.made ≡ made_task end)
     (b_done : b.strand.done ≡ is_done end) (b_task : b.strand.task ≡ mv.task) where
   abbrev after : State
   after = (move_result p lim st mv).0

@@ -7,9 +7,9 @@ use Rattle.prefix_tree.specs.declared.part.Part.{Part}
 use Rattle.seg_journal.specs.declared.journal.End.{End}
 use Rattle.seg_journal.specs.declared.journal.End.TheVariants as ends
 use Rattle.seg_journal.specs.declared.moves.Kind.TheVariants.{Admit}
-use Rattle.twe_machine.specs.declared.state.State.{State}
-use Rattle.twe_machine.specs.declared.state.TaskRow.{TaskRow}
-use Rattle.twe_machine.specs.Runs.{is_done}
+use Rattle.machine_state.specs.declared.state.State.{State}
+use Rattle.machine_state.specs.declared.state.TaskRow.{TaskRow}
+use Rattle.machine_state.specs.Runs.{is_done}
 use Rattle.held_span.specs.Marks.{left_by, seen_by}
 use Rattle.held_span.specs.declared.marks.EffectMark.{EffectMark}
 use Rattle.held_span.specs.declared.marks.EffectMarks.{EffectMarks}

@@ -11,23 +11,23 @@ use Rattle.seg_journal.specs.declared.moves.Move.{Move}
 use Rattle.twe_base.specs.Limits.{Bounds}
 use Rattle.twe_program.specs.Program.{Program}
 use Rattle.twe_program.specs.WellFormed.{IsWellFormed}
-use Rattle.twe_machine.specs.declared.state.State.{State}
-use Rattle.twe_machine.specs.declared.state.TaskRow.{TaskRow}
-use Rattle.twe_machine.specs.Changes.{LeavesAlone, made_by}
-use Rattle.twe_machine.specs.Legal.{MayMove}
-use Rattle.twe_machine.specs.Moves.{move_result, result_by_kind, start_of}
-use Rattle.twe_machine.specs.Rows.{IsRow, row_awaited}
+use Rattle.machine_state.specs.declared.state.State.{State}
+use Rattle.machine_state.specs.declared.state.TaskRow.{TaskRow}
+use Rattle.machine_state.specs.Changes.{LeavesAlone, made_by}
+use Rattle.machine_state.specs.Legal.{MayMove}
+use Rattle.machine_state.specs.Moves.{move_result, result_by_kind, start_of}
+use Rattle.machine_state.specs.Rows.{IsRow, row_awaited}
 use Rattle.span_profile.proofs.Tracking.{mover_row}
-use Rattle.twe_machine.specs.Runs.{IsReached, is_done, Legal, LegalFrom, replayed, state_after}
-use Rattle.twe_machine.proofs.links.Ordered.{waits_up}
-use Rattle.twe_machine.proofs.links.TakenJoins.{row_link}
-use Rattle.twe_machine.proofs.standing.Later.{Later}
-use Rattle.twe_machine.proofs.standing.LaterStates.{replayed_later}
-use Rattle.twe_machine.proofs.standing.ReachedStands.{linked_of, reached_stands, taken_stands}
-use Rattle.twe_machine.proofs.standing.SettlesNext.{as_many_links}
-use Rattle.twe_machine.proofs.standing.Standing.{Stands}
-use Rattle.twe_machine.proofs.tasks.LeftAlone.{left_alone}
-use Rattle.twe_machine.proofs.tasks.Movers.{mover_there}
+use Rattle.machine_state.specs.Runs.{IsReached, is_done, Legal, LegalFrom, replayed, state_after}
+use Rattle.machine_state.proofs.links.Ordered.{waits_up}
+use Rattle.machine_state.proofs.links.TakenJoins.{row_link}
+use Rattle.machine_state.proofs.standing.Later.{Later}
+use Rattle.machine_state.proofs.standing.LaterStates.{replayed_later}
+use Rattle.machine_state.proofs.standing.ReachedStands.{linked_of, reached_stands, taken_stands}
+use Rattle.machine_state.proofs.standing.SettlesNext.{as_many_links}
+use Rattle.machine_state.proofs.standing.Standing.{Stands}
+use Rattle.machine_state.proofs.tasks.LeftAlone.{left_alone}
+use Rattle.machine_state.proofs.tasks.Movers.{mover_there}
 use Rattle.wait_graph.specs.declared.tasks.Link.{Link}
 use Rattle.held_span.specs.declared.marks.EffectMarks.{EffectMarks}
 use Rattle.span_profile.proofs.Lists.{zip_length}

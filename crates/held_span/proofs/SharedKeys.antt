@@ -6,8 +6,8 @@ use Rattle.std.specs.Option.{option_map}
 use Rattle.std.proofs.lemmas.Option.{slice_get-map}
 use Rattle.prefix_tree.specs.declared.part.Part.{Part}
 use Rattle.seg_journal.specs.declared.moves.Kind.TheVariants.{Admit}
-use Rattle.twe_machine.specs.declared.state.TaskRow.{TaskRow}
-use Rattle.twe_machine.proofs.lists.Places.{below_there}
+use Rattle.machine_state.specs.declared.state.TaskRow.{TaskRow}
+use Rattle.machine_state.proofs.lists.Places.{below_there}
 use Rattle.held_span.proofs.Sharing.{shared-iff}
 use Rattle.held_span.specs.Marks.{AreMarksOf, SharesMark, left_by, seen_by}
 use Rattle.held_span.specs.declared.marks.EffectMark.{EffectMark}

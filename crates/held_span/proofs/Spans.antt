@@ -8,10 +8,10 @@ use Rattle.seg_journal.specs.declared.journal.Entry.{Entry}
 use Rattle.seg_journal.specs.declared.moves.Move.{Move}
 use Rattle.twe_base.specs.Limits.{Bounds}
 use Rattle.twe_program.specs.Program.{Program}
-use Rattle.twe_machine.specs.declared.state.State.{State}
-use Rattle.twe_machine.specs.declared.state.TaskRow.{TaskRow}
-use Rattle.twe_machine.specs.Moves.{start_of}
-use Rattle.twe_machine.specs.Runs.{IsReached, Legal}
+use Rattle.machine_state.specs.declared.state.State.{State}
+use Rattle.machine_state.specs.declared.state.TaskRow.{TaskRow}
+use Rattle.machine_state.specs.Moves.{start_of}
+use Rattle.machine_state.specs.Runs.{IsReached, Legal}
 use Rattle.held_span.specs.Marks.{AreMarksOf}
 use Rattle.held_span.specs.declared.marks.EffectMarks.{EffectMarks}
 use Rattle.span_profile.specs.Advice.{IsCountedRun}

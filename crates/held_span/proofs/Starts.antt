@@ -6,18 +6,18 @@ use Rattle.twe_base.specs.Limits.{Bounds}
 use Rattle.twe_program.specs.Program.{Program}
 use Rattle.wait_graph.specs.Chain.{none}
 use Rattle.wait_graph.specs.Waiting.{WaitsOn}
-use Rattle.twe_machine.specs.declared.state.State.{State}
-use Rattle.twe_machine.specs.declared.state.TaskRow.{TaskRow}
-use Rattle.twe_machine.specs.declared.state.TaskStatus.TheVariants.{Enabled}
-use Rattle.twe_machine.specs.Moves.{start_of}
-use Rattle.twe_machine.specs.Rows.{HasStatus}
-use Rattle.twe_machine.proofs.tasks.MadeTasks.{none_enabled}
+use Rattle.machine_state.specs.declared.state.State.{State}
+use Rattle.machine_state.specs.declared.state.TaskRow.{TaskRow}
+use Rattle.machine_state.specs.declared.state.TaskStatus.TheVariants.{Enabled}
+use Rattle.machine_state.specs.Moves.{start_of}
+use Rattle.machine_state.specs.Rows.{HasStatus}
+use Rattle.machine_state.proofs.tasks.MadeTasks.{none_enabled}
 use Rattle.held_span.specs.declared.marks.EffectMark.{EffectMark}
 use Rattle.held_span.specs.declared.marks.EffectMarks.{EffectMarks}
 use Rattle.span_profile.specs.Recorders.{IsRecorder}
 use Rattle.span_profile.specs.heaviest_chain.Built.{FrontHolds}
 use Rattle.held_span.specs.declared.spanning.Spanning.{Spanning}
-use Rattle.held_span.specs.declared.notes.Notes.{Notes}
+use Rattle.held_span.specs.declared.notes.EntryNotes.{EntryNotes}
 use Rattle.held_span.specs.declared.ways.Ways.{Ways}
 use Rattle.held_span.specs.inner.Holding.{HasRoomFor, Holds}
 use Rattle.held_span.specs.inner.Noting.{AreNoted}
@@ -48,7 +48,7 @@ first_led p lim = record {
       inl (subst (λ (n : ℕ). WaitsOn (start_of p lim).links n m) (only.0 ∙ sym only.1) none);
 }
 
-abbrev first_notes : Notes
+abbrev first_notes : EntryNotes
 first_notes = record { lows = []; makers = None ∷ [] }
 
 no_maker : (task number : ℕ) → ¬ (slice_get (None ∷ []) task ≡ Some (Some number))

@@ -14,15 +14,15 @@ use Rattle.twe_program.specs.Program.{Program}
 use Rattle.twe_program.specs.WellFormed.{IsWellFormed}
 use Rattle.wait_graph.specs.Chain.{Chain}
 use Rattle.wait_graph.specs.Waiting.{IsDone, WaitsFor, WaitsOn}
-use Rattle.twe_machine.specs.declared.state.State.{State}
-use Rattle.twe_machine.specs.declared.state.TaskRow.{TaskRow}
-use Rattle.twe_machine.specs.Changes.{LeavesAlone, made_by}
-use Rattle.twe_machine.specs.Legal.{MayMove, MayTake}
-use Rattle.twe_machine.specs.Moves.{move_result, start_of}
-use Rattle.twe_machine.proofs.standing.Later.{Later}
-use Rattle.twe_machine.specs.Runs.{IsReached}
-use Rattle.twe_machine.proofs.standing.Standing.{Stands}
-use Rattle.twe_machine.proofs.tasks.Movers.{mover_there}
+use Rattle.machine_state.specs.declared.state.State.{State}
+use Rattle.machine_state.specs.declared.state.TaskRow.{TaskRow}
+use Rattle.machine_state.specs.Changes.{LeavesAlone, made_by}
+use Rattle.machine_state.specs.Legal.{MayMove, MayTake}
+use Rattle.machine_state.specs.Moves.{move_result, start_of}
+use Rattle.machine_state.proofs.standing.Later.{Later}
+use Rattle.machine_state.specs.Runs.{IsReached}
+use Rattle.machine_state.proofs.standing.Standing.{Stands}
+use Rattle.machine_state.proofs.tasks.Movers.{mover_there}
 use Rattle.held_span.specs.Marks.{seen_by}
 use Rattle.held_span.specs.declared.marks.EffectMark.{EffectMark}
 use Rattle.held_span.specs.declared.marks.EffectMarks.{EffectMarks}
@@ -41,7 +41,7 @@ use Rattle.span_profile.specs.inner.Shows.{Shows}
 use Rattle.held_span.specs.Freed.{RunEntry, stage_weight, stages}
 use Rattle.held_span.specs.Ways.{IsOnWay, RowsInterfere}
 use Rattle.held_span.specs.declared.freeing.Freeing.{Freeing}
-use Rattle.held_span.specs.declared.notes.Notes.{Notes}
+use Rattle.held_span.specs.declared.notes.EntryNotes.{EntryNotes}
 use Rattle.held_span.specs.declared.spanning.Spanning.{Spanning}
 use Rattle.held_span.specs.inner.Freeing.{IsFreed, IsNotedBy, Walks}
 use Rattle.held_span.specs.inner.Holding.{HasRoomFor, HoldsOne, IsLowestOf}
@@ -356,7 +356,7 @@ module _ (p : Program) (lim : Bounds) (well : IsWellFormed p) (marks : EffectMar
           spanned = subst (AreSpanned rows s.tree marks (s.nodes ++ y ∷ [])) (sym stages_are) spanned_now;
           noted = subst (λ (l : List RunEntry). AreNoted rows next.st (s.nodes ++ y ∷ []) l next.notes) (sym stages_are)
               (subst (λ (x : State). AreNoted rows x (s.nodes ++ y ∷ []) (stages p lim before ++ stage ∷ []) next.notes) (sym here)
-              (subst (λ (n : Notes). AreNoted rows after (s.nodes ++ y ∷ []) (stages p lim before ++ stage ∷ []) n) (sym notes_are) noted_now));
+              (subst (λ (n : EntryNotes). AreNoted rows after (s.nodes ++ y ∷ []) (stages p lim before ++ stage ∷ []) n) (sym notes_are) noted_now));
           followed = subst (λ (l : List RunEntry). AreFollowed next.freeing.ways next.st.links (s.nodes ++ y ∷ []) l) (sym stages_are)
               (subst (λ (x : State). AreFollowed next.freeing.ways x.links (s.nodes ++ y ∷ []) (stages p lim before ++ stage ∷ [])) (sym here)
               (subst (λ (f : Freeing). AreFollowed f.ways after.links (s.nodes ++ y ∷ []) (stages p lim before ++ stage ∷ [])) (sym freeing_is) taken.followed));

@@ -4,9 +4,9 @@ use Rattle.std.specs.Prelude.{slice_get}
 use Rattle.seg_journal.specs.declared.journal.Entry.{Entry}
 use Rattle.twe_base.specs.Limits.{Bounds}
 use Rattle.twe_program.specs.Program.{Program}
-use Rattle.twe_machine.specs.declared.state.State.{State}
-use Rattle.twe_machine.specs.declared.state.TaskRow.{TaskRow}
-use Rattle.twe_machine.specs.Moves.{move_result, start_of}
+use Rattle.machine_state.specs.declared.state.State.{State}
+use Rattle.machine_state.specs.declared.state.TaskRow.{TaskRow}
+use Rattle.machine_state.specs.Moves.{move_result, start_of}
 use Rattle.span_profile.specs.heaviest_chain.Chains.{Leads, weight_of_found}
 use Rattle.span_profile.specs.LeadsTo.{LeadsTo}
 use Rattle.span_profile.specs.Strands.{Strand, strands, strands_from, weight_of}

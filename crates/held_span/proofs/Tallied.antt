@@ -5,14 +5,14 @@ use Rattle.std.specs.BTreeMap as tree
 use Rattle.std.proofs.lemmas.List.Sums.{sum_by_push}
 use Rattle.std.proofs.lemmas.Map.Views.{tells_apart}
 use Rattle.std.proofs.lemmas.Option.{same_Some}
-use Rattle.twe_machine.specs.declared.state.TaskRow.{TaskRow}
+use Rattle.machine_state.specs.declared.state.TaskRow.{TaskRow}
 use Rattle.held_span.specs.Pairs.{pair_of}
 use Rattle.held_span.specs.MostHeld.{counts_for, is_pair, time_for, pair_total}
 use Rattle.held_span.specs.inner.Tallies.{HasMore, IsSmall, IsTally, counted_at, longest, never_held, pair_cmp, with_hold}
 use Rattle.held_span.specs.declared.pair.EffectPair.{EffectPair}
 use Rattle.held_span.specs.declared.pair.HeldPair.{HeldPair}
 use Rattle.held_span.specs.declared.hold.Hold.{Hold}
-use Rattle.held_span.specs.declared.tally.Tally.{Tally}
+use Rattle.held_span.specs.declared.tally.HoldTally.{HoldTally}
 use Rattle.held_span.proofs.PairOrder.{exact_keys, is_itself, is_no_other}
 
 module _ (rows : List TaskRow) (before : List Hold) (hold : Hold) where
@@ -41,7 +41,7 @@ module _ (rows : List TaskRow) (before : List Hold) (hold : Hold) where
       ap (λ (n : ℕ). record { pair = total.pair; admissions = n; time = total.time + 0 }) often
       ∙ ap (λ (n : ℕ). record { pair = total.pair; admissions = total.admissions; time = n }) long
 
-  module _ (old new : Tally) (q : EffectPair) (its : pair_of rows hold ≡ Some q) (more : HasMore old new q hold.time)
+  module _ (old new : HoldTally) (q : EffectPair) (its : pair_of rows hold ≡ Some q) (more : HasMore old new q hold.time)
       (tallied : IsTally rows before old) where
     -- the pair of the hold has one more
     counts_here : counted_at new q ≡ pair_total rows (before ++ hold ∷ []) q
@@ -79,7 +79,7 @@ module _ (rows : List TaskRow) (before : List Hold) (hold : Hold) where
     }
 
 -- a hold that is no longer than a hold can be
-module _ (old new : Tally) (q : EffectPair) (time : ℕ) (short : time ≤ longest) (more : HasMore old new q time) (n : ℕ)
+module _ (old new : HoldTally) (q : EffectPair) (time : ℕ) (short : time ≤ longest) (more : HasMore old new q time) (n : ℕ)
     (small : IsSmall n old) where
   few_by : (p : EffectPair) (b : Bool)
       → tree.get pair_cmp new.pairs p ≡ cond b (Some (with_hold (counted_at old q) time)) (tree.get pair_cmp old.pairs p)

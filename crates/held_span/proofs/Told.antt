@@ -13,12 +13,12 @@ use Rattle.seg_journal.specs.declared.moves.Kind.{Kind}
 use Rattle.seg_journal.specs.declared.moves.Kind.TheVariants.{Admit, Run}
 use Rattle.twe_base.specs.Limits.{Bounds}
 use Rattle.twe_program.specs.Program.{Program}
-use Rattle.twe_machine.specs.declared.state.State.{State}
-use Rattle.twe_machine.specs.declared.state.TaskRow.{TaskRow}
-use Rattle.twe_machine.specs.Legal.{MayMove}
-use Rattle.twe_machine.specs.Moves.{move_result}
-use Rattle.twe_machine.specs.Runs.{LegalFrom, is_done}
-use Rattle.twe_machine.proofs.lists.Places.{below_there}
+use Rattle.machine_state.specs.declared.state.State.{State}
+use Rattle.machine_state.specs.declared.state.TaskRow.{TaskRow}
+use Rattle.machine_state.specs.Legal.{MayMove}
+use Rattle.machine_state.specs.Moves.{move_result}
+use Rattle.machine_state.specs.Runs.{LegalFrom, is_done}
+use Rattle.machine_state.proofs.lists.Places.{below_there}
 use Rattle.span_profile.proofs.Lists.{zip_first, zip_second}
 use Rattle.span_profile.proofs.Tracking.{mover_row}
 use Rattle.span_profile.specs.declared.heaviest_chain.chains.Heaviest.{Heaviest}
@@ -26,7 +26,7 @@ use Rattle.span_profile.specs.heaviest_chain.LastBefore.{StartsAfter}
 use Rattle.held_span.specs.Freed.{FreesFrom, RunEntry, stage_of, stages_from}
 use Rattle.held_span.specs.Holds.{AreHolds, IsHeldFor, IsHold, held_entry}
 use Rattle.held_span.specs.declared.hold.Hold.{Hold}
-use Rattle.held_span.specs.declared.notes.Notes.{Notes}
+use Rattle.held_span.specs.declared.notes.EntryNotes.{EntryNotes}
 use Rattle.held_span.specs.inner.Noting.{holder_by, low_at, maker_by, maker_found}
 use Rattle.held_span.specs.inner.Told.{Did, HoldsBelow, IsFoundHold, IsNoHold, IsTold, before_at, before_found, done_found, done_task, found_list, time_at}
 use Rattle.held_span.proofs.Plans.{admits_end, strand_done, strand_task}
@@ -73,7 +73,7 @@ module _ (a : RunEntry) (low : ℕ) (entry : Entry) (is : Did a entry) where
   holder_found : unwrap_or (done_found (Some entry)) low ≡ holder_by a low
   holder_found = by_test (is_done entry.end) refl
 
-module _ (rows : List TaskRow) (stages : List RunEntry) (journal : List Entry) (notes : Notes) (h : Heaviest) (told : IsTold rows stages journal notes h) (number : ℕ) where
+module _ (rows : List TaskRow) (stages : List RunEntry) (journal : List Entry) (notes : EntryNotes) (h : Heaviest) (told : IsTold rows stages journal notes h) (number : ℕ) where
   -- an admission that was held is an entry of the journal
   found_entry : (task time : ℕ) → IsHeldFor stages h.starts h.ends number task time → (entry : Entry) × (slice_get journal number ≡ Some entry) × (entry.mv.kind ≡ Admit) × (entry.mv.task ≡ task)
   found_entry task time held =

@@ -12,14 +12,14 @@ use Rattle.std.proofs.lemmas.List.Elements.{All-cons, All-from_recursion, All-he
 use Rattle.std.proofs.lemmas.Map.Lookups.{exact_unsigned}
 use Rattle.std.proofs.lemmas.Map.Made.{Contains-values_of}
 use Rattle.std.proofs.lemmas.Map.Views.{All-found, btree_map_get_iff}
-use Rattle.twe_machine.specs.declared.state.TaskRow.{TaskRow}
+use Rattle.machine_state.specs.declared.state.TaskRow.{TaskRow}
 use Rattle.held_span.specs.MostHeld.{HasHeld, IsDeclaredBefore, IsLower, pair_total}
 use Rattle.held_span.specs.inner.Tallies.{IsTally, effect_cmp, never_held, pair_cmp}
 use Rattle.held_span.specs.declared.pair.DeclaredEffect.{DeclaredEffect}
 use Rattle.held_span.specs.declared.pair.EffectPair.{EffectPair}
 use Rattle.held_span.specs.declared.pair.HeldPair.{HeldPair}
 use Rattle.held_span.specs.declared.hold.Hold.{Hold}
-use Rattle.held_span.specs.declared.tally.Tally.{Tally}
+use Rattle.held_span.specs.declared.tally.HoldTally.{HoldTally}
 use Rattle.held_span.proofs.PairOrder.{exact_effects, exact_keys, pairs_total}
 use Rattle.held_span.proofs.Ranked.{ByNumbers, LowerPair}
 
@@ -71,7 +71,7 @@ in_order (e ∷ es) all ordered = (
   in_order es (All-tail IsAtPair e es all) ordered.1,
 )
 
-module _ (rows : List TaskRow) (holds : List Hold) (tally : Tally) (tallied : IsTally rows holds tally) where
+module _ (rows : List TaskRow) (holds : List Hold) (tally : HoldTally) (tallied : IsTally rows holds tally) where
   found_is : (pair : EffectPair) (total : HeldPair) → tree.get pair_cmp tally.pairs pair ≡ Some total → total ≡ pair_total rows holds pair
   found_is pair total found = sym (ap (λ (f : Option HeldPair). unwrap_or f (never_held pair)) found) ∙ tallied.each pair
 

@@ -7,9 +7,9 @@ use Rattle.seg_journal.specs.declared.moves.Kind.TheVariants.{Admit}
 use Rattle.twe_base.specs.Limits.{Bounds}
 use Rattle.wait_graph.specs.declared.tasks.Link.{Link}
 use Rattle.twe_program.specs.Program.{Program}
-use Rattle.twe_machine.specs.declared.state.State.{State}
-use Rattle.twe_machine.specs.declared.state.TaskRow.{TaskRow}
-use Rattle.twe_machine.specs.Moves.{move_result, start_of}
+use Rattle.machine_state.specs.declared.state.State.{State}
+use Rattle.machine_state.specs.declared.state.TaskRow.{TaskRow}
+use Rattle.machine_state.specs.Moves.{move_result, start_of}
 use Rattle.span_profile.specs.LeadsTo.{LeadsTo}
 use Rattle.span_profile.specs.Strands.{Strand, strand_of}
 use Rattle.held_span.specs.Ways.{IsOnWay, RowsInterfere}

@@ -5,8 +5,8 @@ use Rattle.seg_journal.specs.declared.journal.Entry.{Entry}
 use Rattle.seg_journal.specs.declared.moves.Move.{Move}
 use Rattle.twe_base.specs.Limits.{Bounds}
 use Rattle.twe_program.specs.Program.{Program}
-use Rattle.twe_machine.specs.declared.state.State.{State}
-use Rattle.span_profile.specs.Timetables.{AreEarliest}
+use Rattle.machine_state.specs.declared.state.State.{State}
+use Rattle.schedules.specs.Timetables.{AreEarliest}
 use Rattle.span_profile.specs.heaviest_chain.Chains.{IsChainOf, Leads, chain_weight, weight_at}
 use Rattle.span_profile.specs.Advice.{IsCountedRun}
 use Rattle.held_span.specs.Freed.{FollowsFreed, stage_weight, stages}

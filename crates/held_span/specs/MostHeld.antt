@@ -5,7 +5,7 @@ use Rattle.held_span.specs.declared.pair.DeclaredEffect.{DeclaredEffect}
 use Rattle.held_span.specs.declared.pair.EffectPair.{EffectPair}
 use Rattle.held_span.specs.declared.pair.HeldPair.{HeldPair}
 use Rattle.held_span.specs.declared.hold.Hold.{Hold}
-use Rattle.twe_machine.specs.declared.state.TaskRow.{TaskRow}
+use Rattle.machine_state.specs.declared.state.TaskRow.{TaskRow}
 
 -- whether these are the same declared effect
 abbrev pub is_same_effect : DeclaredEffect → DeclaredEffect → Bool

@@ -6,7 +6,7 @@ use Rattle.effect_sets.specs.Filled.{fill_effect}
 use Rattle.effect_sets.specs.Interference.{Interferes}
 use Rattle.twe_program.specs.declared.program.Decl.{Decl}
 use Rattle.twe_program.specs.Program.{Program}
-use Rattle.twe_machine.specs.declared.state.TaskRow.{TaskRow}
+use Rattle.machine_state.specs.declared.state.TaskRow.{TaskRow}
 use Rattle.held_span.specs.declared.pair.DeclaredEffect.{DeclaredEffect}
 use Rattle.held_span.specs.declared.pair.EffectPair.{EffectPair}
 use Rattle.held_span.specs.declared.hold.Hold.{Hold}

@@ -7,7 +7,7 @@ use Rattle.effect_sets.specs.declared.effects.Effect.{Effect}
 use Rattle.effect_sets.specs.Interference.{statically_interferes}
 use Rattle.held_span.specs.declared.pair.EffectPair.{EffectPair}
 use Rattle.held_span.specs.declared.hold.Hold.{Hold}
-use Rattle.twe_machine.specs.declared.state.TaskRow.{TaskRow}
+use Rattle.machine_state.specs.declared.state.TaskRow.{TaskRow}
 
 infixl 10 ◌>>=◌
 -- what comes of a value that is there

@@ -3,7 +3,7 @@ use Rattle.std.specs.Prelude.{◌≡◌, ◌≢◌, ℕ, List, Some, slice_get}
 use Rattle.effect_sets.specs.Interference.{SomeInterfere}
 use Rattle.wait_graph.specs.declared.tasks.Link.{Link}
 use Rattle.wait_graph.specs.Waiting.{WaitsOn}
-use Rattle.twe_machine.specs.declared.state.TaskRow.{TaskRow}
+use Rattle.machine_state.specs.declared.state.TaskRow.{TaskRow}
 
 -- some effects of the tasks of these two numbers interfere
 pub record RowsInterfere (rows : List TaskRow) (s t : ℕ) : Type 0 where

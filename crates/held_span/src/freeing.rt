@@ -12,12 +12,12 @@ use crate::EffectMarks;
 use crate::holders::Holders;
 use crate::keys::push_marks;
 use crate::ways::Ways;
+use machine_state::State;
 use seg_journal::End;
 use span_profile::EntryKeys;
 use span_profile::heaviest_chain::Key;
 use std::alloc::Global;
 use twe_base::{List, Memory};
-use twe_machine::State;
 
 /// The enabled tasks, and who has made whom.
 #[derive(Debug, Drop)]

@@ -1,13 +1,13 @@
 //! The admissions of a run that were held.
 ghost use Rattle.std.specs.Prelude.{◌≡◌, ◌++◌, List as AnyList, Some, IfOk, OnOk, slice_get, unwrap_or};
-ghost use Rattle.twe_machine.specs.declared.state.TaskRow.{TaskRow};
+ghost use Rattle.machine_state.specs.declared.state.TaskRow.{TaskRow};
 ghost use Rattle.held_span.specs.Freed.{RunEntry};
 ghost use Rattle.held_span.specs.Holds.{AreHolds};
 ghost use Rattle.held_span.specs.inner.Noting.{low_at, maker_by};
 ghost use Rattle.held_span.specs.inner.Told.{IsFoundHold, IsTold, before_at, done_task, found_list, time_at};
 
 use crate::hold::Hold;
-use crate::notes::Notes;
+use crate::notes::EntryNotes;
 use seg_journal::{End, Entry};
 use span_profile::heaviest_chain::Heaviest;
 use std::alloc::Global;
@@ -57,7 +57,7 @@ fn done_task(journal: &[Entry], number: u64) -> Option<u32>
 }
 
 /// The task from which an entry freed the admission that is the entry of this number.
-fn holder_of(journal: &[Entry], notes: &Notes, number: usize, freed_by: u64) -> u32
+fn holder_of(journal: &[Entry], notes: &EntryNotes, number: usize, freed_by: u64) -> u32
     ensures { result ≡ unwrap_or (done_task journal.now freed_by) (low_at notes.now.lows number) }
 {
     let low = notes.low_at(number);
@@ -67,7 +67,7 @@ fn holder_of(journal: &[Entry], notes: &Notes, number: usize, freed_by: u64) -> 
 /// The hold of an admission that began as another entry ended, if that was later than its maker ended.
 fn hold_since(
     journal: &[Entry],
-    notes: &Notes,
+    notes: &EntryNotes,
     times: &Heaviest,
     number: usize,
     entry: Entry,
@@ -98,7 +98,7 @@ fn hold_since(
 /// The hold of an admission whose task has this maker, if it was held.
 fn hold_after(
     journal: &[Entry],
-    notes: &Notes,
+    notes: &EntryNotes,
     times: &Heaviest,
     number: usize,
     entry: Entry,
@@ -118,7 +118,7 @@ fn hold_after(
 /// The hold of this entry, if it is an admission that was held.
 fn hold_of(
     journal: &[Entry],
-    notes: &Notes,
+    notes: &EntryNotes,
     times: &Heaviest,
     number: usize,
     entry: Entry,
@@ -134,7 +134,7 @@ fn hold_of(
 }
 
 /// The hold of the entry of this number, if it is an admission that was held.
-fn hold_at(journal: &[Entry], notes: &Notes, times: &Heaviest, number: usize) -> Option<Hold>
+fn hold_at(journal: &[Entry], notes: &EntryNotes, times: &Heaviest, number: usize) -> Option<Hold>
     ensures { (rows : AnyList TaskRow) (stages : AnyList RunEntry) → IsTold rows stages journal.now notes.now times.now
         → IsFoundHold rows stages times.now.starts times.now.ends number result }
 {
@@ -161,7 +161,7 @@ fn push_found(holds: &mut List<Hold>, found: Option<Hold>) -> Result<(), Memory>
 pub(crate) fn holds_of(
     alloc: Global,
     journal: &[Entry],
-    notes: &Notes,
+    notes: &EntryNotes,
     times: &Heaviest,
 ) -> Result<List<Hold>, Memory>
     ensures { (rows : AnyList TaskRow) (stages : AnyList RunEntry) → IsTold rows stages journal.now notes.now times.now

@@ -6,7 +6,7 @@ ghost use Rattle.effect_sets.specs.Interference.{statically_interferes};
 use crate::Hold;
 use crate::pair::{DeclaredEffect, EffectPair};
 use effect_sets::{Effect, interferes};
-use twe_machine::TaskRow;
+use machine_state::TaskRow;
 
 /// Whether the effect interferes with one of the others.
 fn interferes_with_one(effect: &Effect, others: &[Effect]) -> bool

@@ -5,10 +5,10 @@ ghost use Rattle.held_span.specs.inner.Ranks.{place_of, ranked, with_pair};
 
 use crate::Hold;
 use crate::pair::HeldPair;
-use crate::tally::Tally;
+use crate::tally::HoldTally;
+use machine_state::TaskRow;
 use std::alloc::Global;
 use twe_base::{List, Memory};
-use twe_machine::TaskRow;
 
 /// How many of the first pairs held no shorter than so long.
 fn place_of(pairs: &[HeldPair], time: u128) -> usize
@@ -55,7 +55,7 @@ pub fn held_pairs(
 ) -> Result<List<HeldPair>, Memory>
     ensures { IfOk result (HeldMost tasks.now holds.now) }
 {
-    let tally = Tally::of_holds(alloc, tasks, holds)?;
+    let tally = HoldTally::of_holds(alloc, tasks, holds)?;
     let pairs = tally.into_pairs(alloc)?;
     first_three(alloc, pairs.as_slice())
 }

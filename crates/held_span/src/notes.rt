@@ -8,7 +8,7 @@ use twe_base::{List, Memory};
 
 /// What is noted of the entries of a run, to know afterwards who held its admissions.
 #[derive(Debug, Drop)]
-pub(crate) struct Notes {
+pub(crate) struct EntryNotes {
     /// For each entry the lowest enabled task whose effects interfere with those of the task that it admits, if there is one.
     lows: List<Option<u32>>,
     /// For each task the entry that made it, if one did.
@@ -28,14 +28,14 @@ fn note_maker(makers: &mut List<Option<u64>>, number: u64, end: End) -> Result<(
     }
 }
 
-impl Notes {
+impl EntryNotes {
     /// No entry, and the first task.
     pub(crate) fn new(alloc: Global) -> Result<Self, Memory>
         ensures { IfOk result (λ notes. notes ≡ record { lows = []; makers = None ∷ [] }) }
     {
         let mut makers = List::new(alloc);
         makers.push(None)?;
-        Ok(Notes {
+        Ok(EntryNotes {
             lows: List::new(alloc),
             makers,
         })

@@ -1,8 +1,8 @@
 //! The law of the pair that a hold counts for.
 ghost use Rattle.std.specs.Prelude.{◌≡◌, Some};
 ghost use Rattle.twe_base.specs.Limits.{Bounds};
-ghost use Rattle.twe_machine.specs.declared.state.State.{State};
-ghost use Rattle.twe_machine.specs.Runs.{IsReached};
+ghost use Rattle.machine_state.specs.declared.state.State.{State};
+ghost use Rattle.machine_state.specs.Runs.{IsReached};
 ghost use Rattle.twe_program.specs.Program.{Program};
 ghost use Rattle.twe_program.specs.WellFormed.{IsWellFormed};
 ghost use Rattle.held_span.specs.Ways.{RowsInterfere};

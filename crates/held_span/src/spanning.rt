@@ -3,10 +3,10 @@ ghost use Rattle.std.specs.Prelude.{◌≡◌, ◌<◌, ◌++◌, [], ◌∷◌,
 ghost use Rattle.effect_sets.specs.Filled.{all_filled};
 ghost use Rattle.seg_journal.specs.declared.journal.End.{End};
 ghost use Rattle.seg_journal.specs.declared.journal.Entry.{Entry};
-ghost use Rattle.twe_machine.specs.declared.legal.Why.{Why as Reason};
-ghost use Rattle.twe_machine.specs.declared.replaying.ReplayFail.TheVariants.{Illegal};
-ghost use Rattle.twe_machine.specs.declared.state.TaskRow.{TaskRow as AnyRow};
-ghost use Rattle.twe_machine.specs.Replays.{IsFirstIllegal};
+ghost use Rattle.machine_state.specs.declared.why.Why.{Why as Reason};
+ghost use Rattle.machine_state.specs.declared.replay_fail.ReplayFail.TheVariants.{Illegal};
+ghost use Rattle.machine_state.specs.declared.state.TaskRow.{TaskRow as AnyRow};
+ghost use Rattle.machine_state.specs.Replays.{IsFirstIllegal};
 ghost use Rattle.held_span.specs.Gathering.{AreGathered};
 ghost use Rattle.held_span.specs.Marks.{AreMarksOf};
 ghost use Rattle.held_span.specs.HeldSpans.{IsHeldProfile};
@@ -17,14 +17,15 @@ use crate::freeing::Freeing;
 use crate::hold::Hold;
 use crate::holds::holds_of;
 use crate::keys::number_keys;
-use crate::notes::Notes;
+use crate::notes::EntryNotes;
 use crate::{EffectMarks, Gathered};
+use machine_state::{ReplayFail, State, TaskRow};
 use seg_journal::{Limits, Move};
 use span_profile::heaviest_chain::{Chains, Heaviest};
 use span_profile::{Recorder, counted_run};
 use std::alloc::Global;
 use twe_base::{List, Memory};
-use twe_machine::{ReplayFail, State, TaskRow, start};
+use twe_machine::start;
 use twe_program::Prog;
 
 /// The held span of a run, and the times of its entries, if each begins as soon as all that lead to it or free it have ended.
@@ -46,7 +47,7 @@ struct Spanning {
     st: State,
     recorder: Recorder,
     freeing: Freeing,
-    notes: Notes,
+    notes: EntryNotes,
     chains: Chains,
 }
 
@@ -87,7 +88,7 @@ impl Spanning {
             st,
             recorder: Recorder::new(alloc, p, cells)?,
             freeing: Freeing::new(alloc, marks)?,
-            notes: Notes::new(alloc)?,
+            notes: EntryNotes::new(alloc)?,
             chains: Chains::new(alloc),
         })
     }

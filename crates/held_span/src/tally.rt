@@ -2,31 +2,31 @@
 ghost use Rattle.std.specs.Prelude.{◌≡◌, ◌<◌, ◌+◌, ◌-◌, ◌++◌, ◌∷◌, ◌^◌, [], ℕ, List as AnyList, Some, IfOk, OnOk};
 ghost use Rattle.std.specs.BTreeMap as tree;
 ghost use Rattle.held_span.specs.declared.hold.Hold.{Hold as AnyHold};
-ghost use Rattle.twe_machine.specs.declared.state.TaskRow.{TaskRow as AnyRow};
+ghost use Rattle.machine_state.specs.declared.state.TaskRow.{TaskRow as AnyRow};
 ghost use Rattle.held_span.specs.inner.Tallies.{CanCount, HasMore, IsSmall, IsTally, counted_at};
 
 use crate::Hold;
 use crate::meeting::pair_of;
 use crate::pair::{EffectPair, HeldPair};
+use machine_state::TaskRow;
 use std::alloc::Global;
 use std::collections::BTreeMap;
 use twe_base::Memory;
-use twe_machine::TaskRow;
 
 /// How often and how long each pair has held tasks so far.
 #[derive(Debug, Drop)]
-pub(crate) struct Tally {
+pub(crate) struct HoldTally {
     /// The pairs that have held tasks, in order.
     pairs: BTreeMap<EffectPair, HeldPair>,
 }
 
-impl Tally {
+impl HoldTally {
     /// No pair has held a task.
     fn new(alloc: Global) -> Self
         ensures tally { (rows : AnyList AnyRow) → IsTally rows [] result }
         ensures small { IsSmall 0 result }
     {
-        Tally {
+        HoldTally {
             pairs: BTreeMap::new(alloc),
         }
     }
@@ -78,7 +78,7 @@ impl Tally {
     pub(crate) fn of_holds(alloc: Global, rows: &[TaskRow], holds: &[Hold]) -> Result<Self, Memory>
         ensures { IfOk result (IsTally rows.now holds.now) }
     {
-        let mut tally = Tally::new(alloc);
+        let mut tally = HoldTally::new(alloc);
         for hold in holds {
             tally.note(rows, hold)?;
         }

@@ -8,10 +8,10 @@ use Rattle.seg_journal.specs.declared.journal.End.TheVariants as ends
 use Rattle.seg_journal.specs.declared.journal.Entry.{Entry}
 use Rattle.wait_graph.specs.Link.{link_of}
 use Rattle.wait_graph.specs.Waiting.{SpawnedBy, WaitsForNobody}
-use Rattle.twe_machine.specs.declared.state.State.{State}
-use Rattle.twe_machine.specs.declared.state.TaskRow.{TaskRow}
-use Rattle.twe_machine.specs.declared.state.TaskStatus.TheVariants.{Enabled, Faulted, Made}
-use Rattle.twe_machine.specs.Rows.{HasStatus, IsRow}
+use Rattle.machine_state.specs.declared.state.State.{State}
+use Rattle.machine_state.specs.declared.state.TaskRow.{TaskRow}
+use Rattle.machine_state.specs.declared.state.TaskStatus.TheVariants.{Enabled, Faulted, Made}
+use Rattle.machine_state.specs.Rows.{HasStatus, IsRow}
 
 -- the second effect lies inside the first by the test on paths, and the first writes if the second does
 abbrev pub EffectInside : Effect → Effect → Type 0

@@ -4,15 +4,15 @@ use Rattle.effect_sets.specs.Access.{Conflict}
 use Rattle.seg_journal.specs.declared.journal.Entry.{Entry}
 use Rattle.twe_base.specs.Limits.{Bounds}
 use Rattle.twe_program.specs.Program.{Program}
-use Rattle.seg_exec.specs.Access.{Access}
-use Rattle.seg_exec.specs.Segment.{segment}
+use Rattle.seg_meaning.specs.Access.{Access}
+use Rattle.seg_meaning.specs.Segment.{segment}
 use Rattle.isolation_laws.specs.soundness.DeclaredNow.{access_of}
-use Rattle.twe_machine.specs.declared.state.State.{State}
-use Rattle.twe_machine.specs.declared.state.TaskRow.{TaskRow}
-use Rattle.twe_machine.specs.Legal.{MayRun}
-use Rattle.twe_machine.specs.Moves.{ready_frame}
-use Rattle.twe_machine.specs.Rows.{IsRow}
-use Rattle.twe_machine.specs.Runs.{state_after}
+use Rattle.machine_state.specs.declared.state.State.{State}
+use Rattle.machine_state.specs.declared.state.TaskRow.{TaskRow}
+use Rattle.machine_state.specs.Legal.{MayRun}
+use Rattle.machine_state.specs.Moves.{ready_frame}
+use Rattle.machine_state.specs.Rows.{IsRow}
+use Rattle.machine_state.specs.Runs.{state_after}
 use Rattle.isolation_laws.specs.CoveredNow.{CoveredNow}
 
 -- the task of this row makes the access in its next segment over these cells

@@ -2,12 +2,12 @@
 use Rattle.std.specs.Prelude.{◌≡◌, ◌≢◌, ℕ}
 use Rattle.effect_sets.specs.Interference.{SomeInterfere}
 use Rattle.twe_program.specs.Program.{Program}
-use Rattle.seg_exec.specs.Entry.{effects_at}
+use Rattle.seg_meaning.specs.Entry.{effects_at}
 use Rattle.isolation_laws.specs.soundness.RunsWith.{RunsWith}
 use Rattle.wait_graph.specs.Waiting.{SpawnedBy}
-use Rattle.twe_machine.specs.declared.state.State.{State}
-use Rattle.twe_machine.specs.declared.state.TaskRow.{TaskRow}
-use Rattle.twe_machine.specs.Rows.{IsRow}
+use Rattle.machine_state.specs.declared.state.State.{State}
+use Rattle.machine_state.specs.declared.state.TaskRow.{TaskRow}
+use Rattle.machine_state.specs.Rows.{IsRow}
 
 -- The row keeps to the declaration that its task was made from: its frame runs that declaration with the row's
 -- arguments, and its effects are those of the declaration's summary, filled with these arguments.

@@ -1,6 +1,6 @@
 //! What makes runs safe: tasks of an accepted program that may run at the same time make no conflicting accesses.
 //!
-//! A run is any journal that the machine of `twe_machine` allows, and the rules on effects are those of `effect_check`.
+//! A run is any journal that `machine_state` allows, and the rules on effects are those of `effect_check`.
 //! The laws here connect the two.
 #![tactic(auto)]
 

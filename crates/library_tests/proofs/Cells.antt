@@ -3,7 +3,7 @@ use Rattle.std.proofs.Common.{◌≡◌, ◌+◌, List, [], ◌∷◌, length, l
 use Rattle.std.proofs.lemmas.List.{length-replicate}
 use Rattle.twe_program.specs.declared.program.CellDecl.{CellDecl}
 use Rattle.twe_program.specs.Program.{cells_made, size_of}
-use Rattle.twe_machine.specs.Moves.{initial_values}
+use Rattle.machine_state.specs.Moves.{initial_values}
 
 pub length-initial_values : (decls : List CellDecl) → length (initial_values decls) ≡ cells_made decls
 length-initial_values [] = refl

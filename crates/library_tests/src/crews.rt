@@ -3,16 +3,17 @@
 ghost use Rattle.std.specs.Prelude.{◌≤◌};
 
 use floor_crew::FloorCrew;
-use run_gates::{FreeGate, Gate};
+use machine_state::Outcome;
 use seg_journal::{End, Entry, Kind, Move};
 use std::alloc::Global;
 use std::sync::Wait;
 use std::sync::atomic::{AtomicU64, Ordering};
 use std::test::Fail;
 use std::thread::Threads;
+use steal_pool::gates::{FreeGate, Gate};
 use twe_base::{FaultKind, Limits, Place};
 use twe_frontend::read_program;
-use twe_machine::{Outcome, outcome};
+use twe_machine::outcome;
 
 /// The effects of `all` meet those of the two other tasks: `deep` writes far below them, and `far` is at no node of its own. Each
 /// has a loop, here and below, so that nobody knows before that it is short.

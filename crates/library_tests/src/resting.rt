@@ -3,11 +3,12 @@
 ghost use Rattle.std.specs.Prelude.{◌≡◌};
 ghost use Rattle.twe_program.specs.WellFormed.{IsWellFormed};
 ghost use Rattle.isolation_laws.specs.soundness.KeepsEffects.{KeepsEffects};
-ghost use Rattle.twe_machine.specs.Runs.{IsRun};
+ghost use Rattle.machine_state.specs.Runs.{IsRun};
 
 use effect_tree::Shape;
-use floor_table::Named;
-use floor_table::nodes::Planted;
+use floor_laws::table::Named;
+use floor_laws::table::nodes::Planted;
+use machine_state::{State, TaskRow, TaskStatus};
 use seg_journal::{Kind, Move};
 use std::alloc::Global;
 use std::marker::Brand;
@@ -16,7 +17,7 @@ use task_floor::Floor;
 use task_floor::steps::Rest;
 use twe_base::{Limits, Memory};
 use twe_frontend::read_program;
-use twe_machine::{State, TaskRow, TaskStatus, replay_journal};
+use twe_machine::replay_journal;
 use twe_program::Prog;
 
 /// `main` prints 7 and spawns two children, of which it joins the first.

@@ -1,10 +1,10 @@
 //! What a gate sees of several workers on a floor: three tasks are under way at once only if three workers have run them. So each
 //! worker has found tasks that another one made, and has gone on after its first segment.
 use crate::crews::{all_done, step_and_round};
-use run_gates::Gate;
 use std::sync::atomic::{AtomicBool, AtomicU64, Ordering};
 use std::test::Fail;
 use std::{hint, thread};
+use steal_pool::gates::Gate;
 
 /// How many workers there are, and how many tasks come together.
 const CREW: u64 = 3;

@@ -12,7 +12,7 @@ use Rattle.name_check.specs.declared.rule.NRule.{NRule}
 use Rattle.name_check.specs.FailsName.{NameFailure}
 use Rattle.name_check.specs.Limits.{StandsAfter, IsSecondStar, is_star}
 use Rattle.twe_base.specs.First.{failure_if}
-use Rattle.name_check.specs.inner.OtherFailures.{failures_of_place, second_star, path_failures, paths_failures, clauses_failures}
+use Rattle.name_check.specs.OtherFailures.{failures_of_place, second_star, path_failures, paths_failures, clauses_failures}
 use Rattle.twe_base.proofs.Members.{IsIn, in-left, in-right, in-cases}
 
 abbrev pub failure : NRule → Place → NameFailure

@@ -43,7 +43,7 @@ use Rattle.name_check.specs.FailsName as rules
 use Rattle.name_check.specs.FailsName.{FailsName, Asks, HasMain, IsDeclaredAgain, binding_as, fits}
 use Rattle.name_check.specs.inner.Failures.{lacks_value, has_other_count, assigns_constant, failures_of_use, differs, failures_by, failures_at, is_void}
 use Rattle.twe_base.specs.First.{failure_if}
-use Rattle.name_check.specs.inner.OtherFailures.{failures_of_place, parameter_over_limit, path_over_limit, element_over_limit, path_failures, clauses_failures, lacks_return, decl_failures, item_failures}
+use Rattle.name_check.specs.OtherFailures.{failures_of_place, parameter_over_limit, path_over_limit, element_over_limit, path_failures, clauses_failures, lacks_return, decl_failures, item_failures}
 use Rattle.name_check.specs.inner.Whole.{is_again, again_failures, is_main_item}
 use Rattle.twe_base.proofs.Firsts.{in-if}
 use Rattle.name_check.proofs.Elements.{failure, in-over, in-star, in-clauses}

@@ -10,7 +10,7 @@ use Rattle.name_check.specs.FailsName.{NameFailure}
 use Rattle.name_check.specs.FailsName.{FailsName, IsFirstNameFailure, name_rule_number}
 use Rattle.name_check.specs.FailsName as rules
 use Rattle.name_check.specs.inner.First.{first_from}
-use Rattle.name_check.specs.inner.OtherFailures.{failures_of_place}
+use Rattle.name_check.specs.OtherFailures.{failures_of_place}
 use Rattle.twe_base.proofs.Members.{IsIn}
 use Rattle.twe_base.specs.Order.{IsFirstOf}
 use Rattle.twe_base.proofs.Firsts.{first-same, first_from-first, first-said}

@@ -11,7 +11,7 @@ use Rattle.name_check.specs.Sites.{Site, sites_of_item}
 use Rattle.name_check.specs.inner.Failures.{failures_at, first_of_sites}
 use Rattle.twe_base.specs.First.{failure_if}
 use Rattle.name_check.specs.inner.First.{first_from}
-use Rattle.name_check.specs.inner.OtherFailures.{item_failures}
+use Rattle.name_check.specs.OtherFailures.{item_failures}
 use Rattle.name_check.specs.inner.Whole.{again_failures, first_but_nodes, first_in_items, is_main_item}
 use Rattle.name_check.proofs.FirstFailures.{first_from-append}
 

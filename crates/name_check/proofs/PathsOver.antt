@@ -8,7 +8,7 @@ use Rattle.twe_ast.specs.declared.item.Clause.{Clause}
 use Rattle.twe_ast.specs.declared.path.Path.{Path}
 use Rattle.name_check.specs.FailsName.{NameFailure}
 use Rattle.name_check.specs.inner.First.{first_from}
-use Rattle.name_check.specs.inner.OtherFailures.{clauses_failures, paths_failures}
+use Rattle.name_check.specs.OtherFailures.{clauses_failures, paths_failures}
 use Rattle.name_check.proofs.FirstFailures.{first_from-append}
 
 -- the element at a place of two lists one after the other

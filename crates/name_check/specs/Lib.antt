@@ -5,6 +5,7 @@ pub mod Asks
 pub mod Sites
 pub mod Ends
 pub mod Limits
+pub mod OtherFailures
 pub mod Size
 pub mod FailsName
 pub mod Checked

@@ -5,6 +5,5 @@ pub mod Room
 pub mod First
 pub mod Failures
 pub mod Simple
-pub mod OtherFailures
 pub mod Elements
 pub mod Whole

@@ -6,7 +6,7 @@ ghost use Rattle.name_check.specs.Size.{size_of_decl, size_of_item};
 ghost use Rattle.name_check.specs.Sites.{sites_of_decl, sites_of_item, sites_of_params};
 ghost use Rattle.name_check.specs.inner.Failures.{first_of_sites};
 ghost use Rattle.name_check.specs.inner.First.{first_from};
-ghost use Rattle.name_check.specs.inner.OtherFailures.{decl_failures, item_failures};
+ghost use Rattle.name_check.specs.OtherFailures.{decl_failures, item_failures};
 
 use crate::check_body::check_block;
 use crate::check_path::{check_cell_path, check_effects};

@@ -25,8 +25,16 @@ mod uses;
 mod whole;
 
 pub use binding::{Binding, Global, Local, NameUse};
+pub use check_simple::is_void;
+pub use limits::{
+    cell_element_over_limit, element_over_limit, is_star, parameter_over_limit, second_star,
+};
 pub use look::look_up;
 pub use names::{GlobalName, Globals};
 pub use rule::NRule;
 pub use scope::{BodyScope, LocalName, Locals};
+pub use types::{
+    are_numbers, binary_type, call_type, element_type, is_type, left_need, name_type, right_need,
+    unary_type,
+};
 pub use whole::{CheckedNames, check_names, first_failure};

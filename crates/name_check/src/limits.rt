@@ -5,7 +5,7 @@ ghost use Rattle.twe_ast.specs.declared.item.Clause.{Clause as EffectClause};
 ghost use Rattle.name_check.specs.Limits.{is_star};
 ghost use Rattle.name_check.specs.declared.rule.NRule.TheVariants.{N7 as N7_};
 ghost use Rattle.name_check.specs.inner.First.{first_from};
-ghost use Rattle.name_check.specs.inner.OtherFailures as failures;
+ghost use Rattle.name_check.specs.OtherFailures as failures;
 
 use crate::check_simple::is_void;
 use crate::ends::{block_ends, close_of};
@@ -23,7 +23,7 @@ pub fn report_at(first: &mut Option<Failure<NRule>>, rule: NRule, place: Option<
 }
 
 /// The place of the first parameter that exceeds the limit on parameters, if there is one.
-fn parameter_over_limit(names: &List<Name>) -> Option<Place>
+pub fn parameter_over_limit(names: &List<Name>) -> Option<Place>
     ensures { result ≡ failures.parameter_over_limit names.now }
 {
     match names.get(MAX_PARAMETERS) {
@@ -33,7 +33,7 @@ fn parameter_over_limit(names: &List<Name>) -> Option<Place>
 }
 
 /// The place of the first element of an effect's path that exceeds the limit on elements, if there is one.
-fn element_over_limit(elems: &List<PathElem>) -> Option<Place>
+pub fn element_over_limit(elems: &List<PathElem>) -> Option<Place>
     ensures { result ≡ failures.element_over_limit elems.now }
 {
     match elems.get(MAX_PATH_ELEMENTS) {
@@ -43,7 +43,7 @@ fn element_over_limit(elems: &List<PathElem>) -> Option<Place>
 }
 
 /// The place of the first element of a cell's path that exceeds the limit on elements, if there is one.
-fn cell_element_over_limit(elems: &List<CellElem>) -> Option<Place>
+pub fn cell_element_over_limit(elems: &List<CellElem>) -> Option<Place>
     ensures { result ≡ failures.cell_element_over_limit elems.now }
 {
     match elems.get(MAX_PATH_ELEMENTS) {
@@ -67,7 +67,7 @@ fn path_over_limit(clauses: &[Clause]) -> Option<Place>
 }
 
 /// Whether an element is a `*`.
-fn is_star(elem: &PathElem) -> bool
+pub fn is_star(elem: &PathElem) -> bool
     ensures { result ≡ is_star elem.now }
 {
     match elem.kind {
@@ -77,7 +77,7 @@ fn is_star(elem: &PathElem) -> bool
 }
 
 /// The place of the second `*` among the elements, if there is one.
-fn second_star(elems: &[PathElem]) -> Option<Place>
+pub fn second_star(elems: &[PathElem]) -> Option<Place>
     ensures { result ≡ failures.second_star false elems.now }
 {
     let mut before = false;

@@ -6,15 +6,15 @@ use Rattle.seg_journal.specs.declared.moves.Kind.TheVariants as kinds
 use Rattle.seg_journal.specs.declared.moves.Move.{Move}
 use Rattle.twe_base.specs.Limits.{Bounds}
 use Rattle.twe_program.specs.Program.{Program}
-use Rattle.twe_machine.specs.declared.state.State.{State}
-use Rattle.twe_machine.specs.declared.state.TaskRow.{TaskRow}
-use Rattle.twe_machine.specs.declared.state.TaskStatus.{TaskStatus}
-use Rattle.twe_machine.specs.declared.state.TaskStatus.TheVariants.{Made, Enabled, Done, Faulted}
-use Rattle.twe_machine.specs.Legal.{MayMove}
-use Rattle.twe_machine.specs.Moves.{admitted, move_result, start_of}
-use Rattle.twe_machine.specs.Rows.{IsRow}
-use Rattle.twe_machine.specs.Runs.{entry_of}
-use Rattle.twe_machine.proofs.replays.Replayed.{run_more}
+use Rattle.machine_state.specs.declared.state.State.{State}
+use Rattle.machine_state.specs.declared.state.TaskRow.{TaskRow}
+use Rattle.machine_state.specs.declared.state.TaskStatus.{TaskStatus}
+use Rattle.machine_state.specs.declared.state.TaskStatus.TheVariants.{Made, Enabled, Done, Faulted}
+use Rattle.machine_state.specs.Legal.{MayMove}
+use Rattle.machine_state.specs.Moves.{admitted, move_result, start_of}
+use Rattle.machine_state.specs.Rows.{IsRow}
+use Rattle.machine_state.specs.Runs.{entry_of}
+use Rattle.machine_state.proofs.replays.Replayed.{run_more}
 use Rattle.flat_sched.proofs.Faults.{taken_well}
 use Rattle.twe_rounds.proofs.Faultless.{counted_more, none_more}
 use Rattle.opt_engine.specs.declared.core_run.CoreRun.{CoreRun}

@@ -3,7 +3,7 @@ use Rattle.std.specs.Prelude.{◌≡◌, List, Option, None, Some}
 use Rattle.seg_journal.specs.declared.journal.Entry.{Entry}
 use Rattle.twe_base.specs.Limits.{Bounds}
 use Rattle.twe_program.specs.Program.{Program}
-use Rattle.twe_machine.specs.Runs.{IsRun, counted}
+use Rattle.machine_state.specs.Runs.{IsRun, counted}
 use Rattle.twe_rounds.specs.Keeping.{NoFaults}
 use Rattle.opt_engine.specs.declared.core_run.CoreRun.{CoreRun}
 use Rattle.opt_engine.specs.Verdicts.{RunGoesOn}

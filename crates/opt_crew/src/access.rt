@@ -2,17 +2,18 @@
 //! without the lock, and commits it under the lock. A segment that is known to be brief it runs under the lock. A single worker
 //! has the core to itself and runs every segment without a draft, since it would win nothing by running ahead.
 
+use crate::game::Game;
 use crate::kept::Kept;
 use crate::named_drafted::NamedDrafted;
 use crate::named_start::{NamedScratch, PlainStart};
 use crate::round_core::RoundCore;
-use crate::trail::Trail;
-use opt_engine::Hints;
-use run_gates::Gate;
+use crate::trail::MoveTrail;
+use opt_engine::{Hints, RoundName};
 use seg_journal::End;
 use std::sync::{Mutex, Wait};
+use steal_pool::gates::Gate;
 use twe_base::Memory;
-use twe_rounds::{Game, Outlook, RoundAccess, RoundName, Waiting};
+use twe_rounds::{HeldAt, Outlook, RoundAccess, Waiting};
 
 /// The core as it is lent to a single worker.
 #[derive(Drop)]
@@ -20,25 +21,29 @@ pub(crate) struct Lent<'a, N: RoundName> {
     pub game: &'a Game<'a, N>,
     pub hints: &'a Hints,
     pub core: &'a mut RoundCore<N>,
-    pub trail: Trail,
+    pub trail: MoveTrail,
     /// Whether there are others, to whom the worker leaves the run if they may gain by it.
     pub has_others: bool,
 }
 
 impl<'a, N: RoundName> RoundAccess for Lent<'a, N> {
-    fn look(&mut self, task: u32) -> Result<Outlook, Memory> {
+    fn outlook(&mut self, task: u32) -> Result<Outlook, Memory> {
         let glance = self.trail.glance(task, false);
         if self.has_others {
-            self.core.look_alone(self.game, task, glance)
+            self.core.outlook_alone(self.game, task, glance)
         } else {
-            self.core.look(self.game, task, glance)
+            self.core.outlook(self.game, task, glance)
         }
     }
 
     fn run(&mut self, task: u32) -> Result<Option<End>, Memory> {
-        let end = self.core.go_on(self.game, self.hints, task)?;
+        let end = self.core.take_next(self.game, self.hints, task)?;
         self.trail.note(task, end);
         Ok(end)
+    }
+
+    fn keep(&mut self, _task: u32, _by: u32) -> Result<HeldAt, Memory> {
+        Ok(HeldAt::Nowhere)
     }
 
     fn tell(&mut self, waiting: &mut Waiting) -> Result<(), Memory> {
@@ -48,7 +53,7 @@ impl<'a, N: RoundName> RoundAccess for Lent<'a, N> {
 
 /// What a worker keeps while it does not hold the lock.
 #[derive(Drop)]
-pub(crate) struct Own<N: RoundName> {
+pub(crate) struct WorkerState<N: RoundName> {
     /// The drafts whose tasks are held back.
     pub kept: Kept<N>,
     /// The start of the segment that it runs next, if it is to be run as a draft.
@@ -56,7 +61,7 @@ pub(crate) struct Own<N: RoundName> {
     /// Room for its drafts, once it has run one.
     pub scratch: Option<NamedScratch<N>>,
     /// What it remembers of its moves.
-    pub trail: Trail,
+    pub trail: MoveTrail,
 }
 
 /// The core under its lock, with what a worker keeps. Each use of the core takes the lock and gives it back.
@@ -67,19 +72,22 @@ pub(crate) struct Locked<'a, R: Wait, G, N: RoundName> {
     pub game: &'a Game<'a, N>,
     pub hints: &'a Hints,
     pub core: &'a Mutex<RoundCore<N>>,
-    pub own: Own<N>,
+    pub own: WorkerState<N>,
 }
 
 impl<'a, R: Wait, G: Gate, N: RoundName> RoundAccess for Locked<'a, R, G, N> {
-    fn look(&mut self, task: u32) -> Result<Outlook, Memory> {
+    fn outlook(&mut self, task: u32) -> Result<Outlook, Memory> {
         if self.own.trail.has_ended(task) {
             return Ok(Outlook::Over);
         }
         let glance = self.own.trail.glance(task, !self.own.kept.has(task));
         if self.own.kept.has_draft(task) {
-            return self.core.lock(self.rt).look(self.game, task, glance);
+            return self.core.lock(self.rt).outlook(self.game, task, glance);
         }
-        let (outlook, start) = self.core.lock(self.rt).look_ahead(self.game, task, glance)?;
+        let (outlook, start) = self
+            .core
+            .lock(self.rt)
+            .outlook_ahead(self.game, task, glance)?;
         self.own.start = start;
         Ok(outlook)
     }
@@ -93,6 +101,10 @@ impl<'a, R: Wait, G: Gate, N: RoundName> RoundAccess for Locked<'a, R, G, N> {
         Ok(end)
     }
 
+    fn keep(&mut self, _task: u32, _by: u32) -> Result<HeldAt, Memory> {
+        Ok(HeldAt::Nowhere)
+    }
+
     fn tell(&mut self, waiting: &mut Waiting) -> Result<(), Memory> {
         self.core.lock(self.rt).tell(waiting)
     }
@@ -103,7 +115,10 @@ impl<'a, R: Wait, G: Gate, N: RoundName> Locked<'a, R, G, N> {
     fn begin(&mut self, task: u32) -> Result<Option<End>, Memory> {
         match self.own.start.take() {
             Some(start) => self.draft(task, start),
-            None => self.core.lock(self.rt).go_on(self.game, self.hints, task),
+            None => self
+                .core
+                .lock(self.rt)
+                .take_next(self.game, self.hints, task),
         }
     }
 

@@ -1,10 +1,10 @@
 //! The tasks whose drafts are being run, so that of two that would change what the other reads only one is begun.
 
 use effect_sets::summaries_interfere;
+use machine_state::{State, TaskRow, TaskStatus};
 use std::alloc::Global;
 use std::collections::BTreeMap;
 use twe_base::Memory;
-use twe_machine::{State, TaskRow, TaskStatus};
 
 /// A task of which some worker runs a draft.
 #[derive(Clone, Copy, Debug)]

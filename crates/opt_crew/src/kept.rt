@@ -1,12 +1,12 @@
 //! What a worker remembers of its drafts: those whose tasks are held back, and that one has changed.
 
 use crate::named_drafted::NamedDrafted;
-use crate::round_core::Tried;
+use crate::taking::Tried;
+use opt_engine::RoundName;
 use seg_journal::End;
 use std::alloc::Global;
 use std::collections::BTreeMap;
 use twe_base::Memory;
-use twe_rounds::RoundName;
 
 /// What became of the last draft of a task.
 #[derive(Drop)]

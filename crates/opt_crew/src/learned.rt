@@ -10,7 +10,7 @@ const BRIEF: u64 = 100;
 
 /// What was seen of the tasks of a declaration.
 #[derive(Clone, Copy, Debug)]
-struct Tally {
+struct DraftTally {
     /// What one of their segments is expected to cost, in units of fuel, once one has run: what the last one cost, or half of
     /// what was expected before, whichever is more.
     cost: Option<u64>,
@@ -24,7 +24,7 @@ struct Tally {
 /// What was seen of the tasks of each declaration.
 #[derive(Drop)]
 pub(crate) struct Learned {
-    tallies: List<Tally>,
+    tallies: List<DraftTally>,
 }
 
 impl Learned {
@@ -77,7 +77,7 @@ impl Learned {
     }
 
     /// What was seen of the tasks of a declaration.
-    fn tally(&self, decl: u32) -> Tally {
+    fn tally(&self, decl: u32) -> DraftTally {
         match self.tallies.get(decl as usize) {
             Some(tally) => *tally,
             None => unseen(),
@@ -85,7 +85,7 @@ impl Learned {
     }
 
     /// Makes this what was seen of the tasks of a declaration.
-    fn put(&mut self, decl: u32, tally: Tally) -> Result<(), Memory> {
+    fn put(&mut self, decl: u32, tally: DraftTally) -> Result<(), Memory> {
         reach(&mut self.tallies, decl)?;
         self.tallies.set(decl as usize, tally);
         Ok(())
@@ -93,7 +93,7 @@ impl Learned {
 }
 
 /// Makes room for what was seen of a declaration.
-fn reach(tallies: &mut List<Tally>, decl: u32) -> Result<(), Memory>
+fn reach(tallies: &mut List<DraftTally>, decl: u32) -> Result<(), Memory>
     ensures { OnOk result (decl < length tallies.new) }
 {
     'reaching: while tallies.len() <= decl as usize {
@@ -103,8 +103,8 @@ fn reach(tallies: &mut List<Tally>, decl: u32) -> Result<(), Memory>
 }
 
 /// Nothing was seen of a declaration.
-fn unseen() -> Tally {
-    Tally {
+fn unseen() -> DraftTally {
+    DraftTally {
         cost: None,
         kept: 0,
         changed: 0,

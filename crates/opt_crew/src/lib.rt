@@ -9,19 +9,21 @@
 mod access;
 mod at_work;
 mod crew;
+mod game;
 mod kept;
 mod learned;
-mod looking;
+mod learning;
 mod makers;
 mod named_drafted;
 mod named_start;
+mod outlooks;
 mod pace;
 mod round_core;
 mod rounds;
 mod seen;
 mod sharing;
+mod taking;
 mod trail;
 
 pub use crew::OptCrew;
 pub use rounds::run_ahead;
-pub use twe_rounds::Quietly;

@@ -2,12 +2,12 @@
 ghost use Rattle.std.specs.Prelude.{◌≡◌};
 ghost use Rattle.opt_engine.specs.Drafts.{IsDraftedOf};
 
+use crate::game::Game;
 use crate::named_start::{NamedScratch, PlainStart};
-use opt_engine::{Drafted, Hints, run_start};
-use run_gates::Gate;
+use opt_engine::{Drafted, Hints, RoundName, run_start};
 use std::marker::{Model, PhantomData};
+use steal_pool::gates::Gate;
 use twe_base::Memory;
-use twe_rounds::{Game, RoundName};
 
 /// A draft of the named program that was run.
 #[derive(Drop)]

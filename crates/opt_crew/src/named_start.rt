@@ -3,9 +3,8 @@ ghost use Rattle.std.specs.Prelude.{◌≡◌};
 ghost use Rattle.twe_program.specs.Program.{cell_count};
 ghost use Rattle.opt_engine.specs.Drafts.{unreserved};
 
-use opt_engine::{Scratch, Start};
+use opt_engine::{RoundName, Scratch, Start};
 use std::marker::{Model, PhantomData};
-use twe_rounds::RoundName;
 
 /// The start of a segment, in whose frame nothing is reserved.
 #[derive(Drop)]

@@ -6,8 +6,9 @@
 //! draft was run or kept. Work pays for each change, so that changes cost no more than the work. All that is counted here is an
 //! estimate, on which no clause rests.
 
+use machine_state::State;
 use seg_journal::End;
-use twe_machine::{State, TaskStatus};
+use twe_rounds::has_ended;
 
 /// What a segment counts beside the fuel that it takes, in units of fuel.
 const PER_SEGMENT: u64 = 64;
@@ -23,7 +24,7 @@ const CALM: u32 = 32;
 
 /// How a run has gone so far.
 #[derive(Clone, Copy, Debug)]
-pub(crate) struct Pace {
+pub(crate) struct RunPace {
     /// The work so far, in units of fuel.
     work: u64,
     /// How much work there has to be before several workers get the run.
@@ -36,10 +37,10 @@ pub(crate) struct Pace {
     calm: u32,
 }
 
-impl Pace {
+impl RunPace {
     /// The pace of a run that has not begun. The first change costs nothing.
     pub(crate) fn new() -> Self {
-        Pace {
+        RunPace {
             work: 0,
             due: 0,
             left: false,
@@ -131,7 +132,7 @@ fn cost_of(state: &State) -> u64 {
 /// Whether there is such a task, and it has not ended.
 fn is_undone(state: &State, task: u32) -> bool {
     match state.tasks.get(task as usize) {
-        Some(row) => !matches!(row.status, TaskStatus::Done | TaskStatus::Faulted),
+        Some(row) => !has_ended(row.status),
         None => false,
     }
 }

@@ -1,37 +1,37 @@
 //! What was seen of a run.
 
 use crate::learned::Learned;
-use crate::looking::decl_of;
 use crate::makers::Makers;
-use crate::pace::Pace;
+use crate::outlooks::decl_of;
+use crate::pace::RunPace;
+use machine_state::State;
 use std::alloc::Global;
 use std::mem;
-use twe_machine::State;
 
 /// What was seen of a run, by whoever had it. No clause rests on it.
 #[derive(Drop)]
-pub(crate) struct Seen {
+pub(crate) struct SeenOfRun {
     /// What was learned of the tasks of each declaration.
     pub learned: Learned,
     /// The tasks that have just made one that may be long.
     pub makers: Makers,
     /// How the run has gone so far.
-    pub pace: Pace,
+    pub pace: RunPace,
 }
 
-impl Seen {
+impl SeenOfRun {
     /// Nothing was seen.
     pub(crate) fn new(alloc: Global) -> Self {
-        Seen {
+        SeenOfRun {
             learned: Learned::new(alloc),
             makers: Makers::new(alloc),
-            pace: Pace::new(),
+            pace: RunPace::new(),
         }
     }
 
     /// What was seen, of which nothing stays here.
     pub(crate) fn take(&mut self, alloc: Global) -> Self {
-        mem::replace(self, Seen::new(alloc))
+        mem::replace(self, SeenOfRun::new(alloc))
     }
 
     /// Whether the next segment of a task is known to be brief.

@@ -2,38 +2,36 @@
 ghost use Rattle.std.specs.Prelude.{◌≡◌, ◌≤◌, IfOk};
 ghost use Rattle.opt_crew.specs.Keeping.{Keeps};
 
-use crate::access::{Lent, Locked, Own};
+use crate::access::{Lent, Locked, WorkerState};
+use crate::game::Game;
 use crate::kept::Kept;
 use crate::round_core::RoundCore;
-use crate::seen::Seen;
-use crate::trail::Trail;
-use opt_engine::{CoreRun, Hints};
-use run_gates::Gate;
-use std::alloc::Global;
+use crate::seen::SeenOfRun;
+use crate::trail::MoveTrail;
+use opt_engine::{CoreRun, Hints, RoundName};
 use std::sync::{Mutex, Wait};
 use std::thread;
 use std::thread::Threads;
-use twe_base::{Limits, Memory};
-use twe_program::Prog;
-use twe_rounds::{Game, RoundName, RoundProgress, Site, Worker, deal, lost};
+use steal_pool::gates::Gate;
+use twe_base::Memory;
+use twe_rounds::{RoundProgress, Setup, Site, Worker, deal, lost};
 
 /// The run after the moves of a single worker, which begins with the task `first`, if there is one. If there are others, it
 /// leaves the run to them once they may gain by it.
 pub(crate) fn alone<N: RoundName, R: Wait, G: Gate>(
     rt: &R,
-    alloc: Global,
-    p: &Prog,
-    lim: Limits,
+    setup: &Setup<'_>,
     run: CoreRun,
-    seen: &mut Seen,
+    seen: &mut SeenOfRun,
     first: Option<u32>,
     has_others: bool,
     gate: &G,
 ) -> Result<CoreRun, Memory>
-    requires named { (p.now ≡ N.prog) × (lim ≡ N.lim) }
+    requires named { (setup.now.p.now ≡ N.prog) × (setup.now.lim ≡ N.lim) }
     requires keeps { Keeps N.prog N.lim N.earlier run }
     ensures { IfOk result (Keeps N.prog N.lim N.earlier) }
 {
+    let (alloc, lim) = (setup.alloc, setup.lim);
     let entries = run.journal.len();
     let mut team = deal(alloc, &run.state, entries, lim.tasks, 1, first)?;
     let progress = RoundProgress::new(team.pending);
@@ -41,7 +39,7 @@ pub(crate) fn alone<N: RoundName, R: Wait, G: Gate>(
         gate,
         progress: &progress,
     };
-    let game: Game<'_, N> = Game::new(alloc, p, lim);
+    let game: Game<'_, N> = Game::new(setup);
     let hints = Hints::none(alloc);
     let mut core = RoundCore::new(alloc, lim, run, seen.take(alloc))?;
     for worker in team.workers.iter_mut() {
@@ -49,7 +47,7 @@ pub(crate) fn alone<N: RoundName, R: Wait, G: Gate>(
             game: &game,
             hints: &hints,
             core: &mut core,
-            trail: Trail::new(),
+            trail: MoveTrail::new(),
             has_others,
         };
         worker.work(rt, &mut access, &site);
@@ -60,26 +58,25 @@ pub(crate) fn alone<N: RoundName, R: Wait, G: Gate>(
 /// The run after the moves of several workers, each on a thread of its own. Meanwhile the run lies under a lock.
 pub(crate) fn together<'a, N: RoundName + Send + Sync, R: Threads + Wait + Sync, G: Gate + Sync>(
     rt: &'a R,
-    alloc: Global,
-    p: &'a Prog,
-    lim: Limits,
+    setup: &'a Setup<'a>,
     workers: u32,
     run: CoreRun,
-    seen: &mut Seen,
+    seen: &mut SeenOfRun,
     gate: &'a G,
 ) -> Result<CoreRun, Memory>
     requires some { 1 ≤ workers }
-    requires named { (p.now ≡ N.prog) × (lim ≡ N.lim) }
+    requires named { (setup.now.p.now ≡ N.prog) × (setup.now.lim ≡ N.lim) }
     requires keeps { Keeps N.prog N.lim N.earlier run }
     ensures { IfOk result (Keeps N.prog N.lim N.earlier) }
 {
+    let (alloc, lim) = (setup.alloc, setup.lim);
     let entries = run.journal.len();
     let mut team = deal(alloc, &run.state, entries, lim.tasks, workers, None)?;
     let progress = RoundProgress::new(team.pending);
-    let game: Game<'_, N> = Game::new(alloc, p, lim);
+    let game: Game<'_, N> = Game::new(setup);
     let hints = Hints::of(alloc, &run.state.cells)?;
     let core = Mutex::new(RoundCore::new(alloc, lim, run, seen.take(alloc))?);
-    let shared = Shared {
+    let shared = SharedCore {
         rt,
         gate,
         progress: &progress,
@@ -94,7 +91,7 @@ pub(crate) fn together<'a, N: RoundName + Send + Sync, R: Threads + Wait + Sync,
 
 /// What the workers of a round share.
 #[derive(Drop)]
-struct Shared<'a, R: Wait, G, N: RoundName> {
+struct SharedCore<'a, R: Wait, G, N: RoundName> {
     rt: &'a R,
     gate: &'a G,
     progress: &'a RoundProgress,
@@ -103,7 +100,7 @@ struct Shared<'a, R: Wait, G, N: RoundName> {
     core: &'a Mutex<RoundCore<N>>,
 }
 
-impl<'a, R: Wait, G: Gate, N: RoundName> Shared<'a, R, G, N> {
+impl<'a, R: Wait, G: Gate, N: RoundName> SharedCore<'a, R, G, N> {
     /// Sends a worker to work.
     fn send(&self, worker: &mut Worker) {
         let mut access = Locked {
@@ -112,11 +109,11 @@ impl<'a, R: Wait, G: Gate, N: RoundName> Shared<'a, R, G, N> {
             game: self.game,
             hints: self.hints,
             core: self.core,
-            own: Own {
+            own: WorkerState {
                 kept: Kept::new(self.game.alloc()),
                 start: None,
                 scratch: None,
-                trail: Trail::new(),
+                trail: MoveTrail::new(),
             },
         };
         let site = Site {

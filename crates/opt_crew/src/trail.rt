@@ -18,7 +18,7 @@ pub(crate) struct Glance {
 
 /// What a worker remembers of its own moves.
 #[derive(Clone, Copy, Debug)]
-pub(crate) struct Trail {
+pub(crate) struct MoveTrail {
     /// The task whose last segment ended with a wait, until it is looked at.
     waits: Option<u32>,
     /// The last task that it brought to its end.
@@ -29,10 +29,10 @@ pub(crate) struct Trail {
     unpushed: Option<u32>,
 }
 
-impl Trail {
+impl MoveTrail {
     /// No moves.
     pub(crate) fn new() -> Self {
-        Trail {
+        MoveTrail {
             waits: None,
             done: None,
             made: 0,

@@ -12,30 +12,30 @@ use Rattle.wait_graph.specs.Link.{link_of}
 use Rattle.wait_graph.specs.Waiting.{WaitsFor}
 use Rattle.twe_program.specs.Program.{Program}
 use Rattle.twe_program.specs.WellFormed.{IsWellFormed}
-use Rattle.seg_exec.specs.declared.frame.Frame.{Frame}
-use Rattle.seg_exec.specs.declared.frame.Next.{Next}
-use Rattle.seg_exec.specs.declared.frame.Next.TheVariants.{Go}
-use Rattle.seg_exec.specs.Access.{after}
-use Rattle.seg_exec.specs.Giving.{given_by}
-use Rattle.seg_exec.specs.Segment.{Stopped, segment}
-use Rattle.seg_exec.proofs.Determined.{segment_agrees, segment_determined}
+use Rattle.seg_meaning.specs.declared.frame.Frame.{Frame}
+use Rattle.seg_meaning.specs.declared.frame.Next.{Next}
+use Rattle.seg_meaning.specs.declared.frame.Next.TheVariants.{Go}
+use Rattle.seg_meaning.specs.Access.{after}
+use Rattle.seg_meaning.specs.Giving.{given_by}
+use Rattle.seg_meaning.specs.Segment.{Stopped, segment}
+use Rattle.seg_meaning.proofs.Determined.{segment_agrees, segment_determined}
 use Rattle.twe_machine.specs.declared.enabled_tasks.EnabledTasks.{EnabledTasks}
-use Rattle.twe_machine.specs.declared.state.State.{State}
-use Rattle.twe_machine.specs.declared.state.TaskRow.{TaskRow}
-use Rattle.twe_machine.specs.declared.state.TaskStatus.{TaskStatus}
-use Rattle.twe_machine.specs.declared.state.TaskStatus.TheVariants.{Made, Enabled}
-use Rattle.twe_machine.specs.Legal.{MayMove, MayRun}
+use Rattle.machine_state.specs.declared.state.State.{State}
+use Rattle.machine_state.specs.declared.state.TaskRow.{TaskRow}
+use Rattle.machine_state.specs.declared.state.TaskStatus.{TaskStatus}
+use Rattle.machine_state.specs.declared.state.TaskStatus.TheVariants.{Made, Enabled}
+use Rattle.machine_state.specs.Legal.{MayMove, MayRun}
 use Rattle.twe_machine.specs.Listings.{IsListing, WasListing}
-use Rattle.twe_machine.specs.Moves.{MaySettle, admitted, admitted_row, awaited_value, move_result, ran, ready_frame, settling_result}
-use Rattle.twe_machine.specs.Rows.{HasStatus, IsRow, row_awaited, link_of_row}
-use Rattle.twe_machine.specs.Runs.{IsReached, IsRun, entry_of}
-use Rattle.twe_machine.proofs.links.Linked.{link_at}
-use Rattle.twe_machine.proofs.links.LinksAgree.{status_of}
+use Rattle.machine_state.specs.Moves.{MaySettle, admitted, admitted_row, awaited_value, move_result, ran, ready_frame, settling_result}
+use Rattle.machine_state.specs.Rows.{HasStatus, IsRow, row_awaited, link_of_row}
+use Rattle.machine_state.specs.Runs.{IsReached, IsRun, entry_of}
+use Rattle.machine_state.proofs.links.Linked.{link_at}
+use Rattle.machine_state.proofs.links.LinksAgree.{status_of}
 use Rattle.twe_machine.proofs.listing.Listed.{was_listed}
-use Rattle.twe_machine.proofs.lists.Places.{got_one, set_same}
-use Rattle.twe_machine.proofs.standing.ReachedStands.{reached_stands}
-use Rattle.twe_machine.proofs.replays.Replayed.{run_more}
-use Rattle.twe_machine.proofs.standing.SettlesNext.{may_settle, settles_with}
+use Rattle.machine_state.proofs.lists.Places.{got_one, set_same}
+use Rattle.machine_state.proofs.standing.ReachedStands.{reached_stands}
+use Rattle.machine_state.proofs.replays.Replayed.{run_more}
+use Rattle.machine_state.proofs.standing.SettlesNext.{may_settle, settles_with}
 use Rattle.opt_engine.specs.declared.core_run.CoreRun.{CoreRun}
 use Rattle.opt_engine.specs.declared.drafts.Drafted.{Drafted}
 use Rattle.opt_engine.specs.declared.touch.CellValue.{CellValue}

@@ -4,14 +4,14 @@ use Rattle.std.specs.Prelude.{slice_get, slice_set}
 use Rattle.std.proofs.lemmas.List.{length-replicate}
 use Rattle.twe_program.specs.Program.{Program}
 use Rattle.twe_program.specs.WellFormed.{IsWellFormed}
-use Rattle.seg_exec.specs.declared.frame.Frame.{Frame}
-use Rattle.seg_exec.specs.declared.stop.Stop.{Stop}
-use Rattle.seg_exec.specs.Access.{Access, Reads, Writes, Prints, Agrees, Follows, MayAll, after, value_in, ways_of}
-use Rattle.seg_exec.specs.Plain.{list_ways}
-use Rattle.seg_exec.specs.Segment.{CarriesOut, MayCarryOut, Stopped, segment}
-use Rattle.seg_exec.proofs.Accesses.{may_carry_out}
+use Rattle.seg_meaning.specs.declared.frame.Frame.{Frame}
+use Rattle.seg_meaning.specs.declared.stop.Stop.{Stop}
+use Rattle.seg_meaning.specs.Access.{Access, Reads, Writes, Prints, Agrees, Follows, MayAll, after, value_in, ways_of}
+use Rattle.seg_meaning.specs.Plain.{list_ways}
+use Rattle.seg_meaning.specs.Segment.{CarriesOut, MayCarryOut, Stopped, segment}
+use Rattle.seg_meaning.proofs.Accesses.{may_carry_out}
 use Rattle.opt_engine.specs.declared.drafts.Draft.{Draft}
-use Rattle.opt_engine.specs.declared.notes.Notes.{Notes}
+use Rattle.opt_engine.specs.declared.notes.CellNotes.{CellNotes}
 use Rattle.opt_engine.specs.declared.touching.Touching.{Touching}
 use Rattle.opt_engine.specs.inner.Noting.{MayTouch, TouchFollows, fresh, no_notes, notes_after, read_noted, touch_knows, value_at, write_noted}
 use Rattle.opt_engine.specs.Drafts.{IsDraftOf, drafted}
@@ -36,14 +36,14 @@ touched old (Reads cell value ∷ earlier) new is =
     record {
       agrees = (before.agrees, ap (λ (l : List ℤ). value_in (slice_get l cell)) (sym before.cells) ∙ is.2.1);
       cells = is.2.0 ∙ before.cells;
-      notes = λ none. let last = is.2.2 none in let first = before.notes last.0 in (first.0, last.1 ∙ ap (λ (n : Notes). read_noted cell value n) first.1);
+      notes = λ none. let last = is.2.2 none in let first = before.notes last.0 in (first.0, last.1 ∙ ap (λ (n : CellNotes). read_noted cell value n) first.1);
     }
 touched old (Writes cell value ∷ earlier) new is =
     let before = touched old earlier is.0 is.1 in
     record {
       agrees = before.agrees;
       cells = is.2.0 ∙ ap (λ (l : List ℤ). slice_set l cell value) before.cells;
-      notes = λ none. let last = is.2.1 none in let first = before.notes last.0 in (first.0, last.1 ∙ ap (λ (n : Notes). write_noted cell n) first.1);
+      notes = λ none. let last = is.2.1 none in let first = before.notes last.0 in (first.0, last.1 ∙ ap (λ (n : CellNotes). write_noted cell n) first.1);
     }
 touched old (Prints value ∷ earlier) new is =
     let before = touched old earlier new is in
@@ -92,14 +92,14 @@ ran_draft p draft new_frame old new stop well is first h whole =
     let noted = (w.notes whole).1 ∙ ap (λ (l : List Access). notes_after l begun.notes) made in
     let stands = notes_stand draft.cells left.accesses may in
     let cells : new.cells ≡ after draft.cells left.accesses = w.cells ∙ ap (after draft.cells) made in
-    let written : new.notes.written ≡ written_cells left.accesses = ap (λ (n : Notes). n.written) noted ∙ stands.written in
+    let written : new.notes.written ≡ written_cells left.accesses = ap (λ (n : CellNotes). n.written) noted ∙ stands.written in
     let writes : map (value_at new.cells) new.notes.written ≡ last_writes left.accesses =
     (λ i. map (value_at (cells i)) (written i)) ∙ values_are draft.cells left.accesses may in
     λ i. record {
       task = draft.task;
       before = draft.frame;
       after = sym (ap (λ (r : Stopped). r.frame) e) i;
-      reads = (ap (λ (n : Notes). n.reads) noted ∙ stands.reads) i;
+      reads = (ap (λ (n : CellNotes). n.reads) noted ∙ stands.reads) i;
       writes = writes i;
       stop = sym (ap (λ (r : Stopped). r.stop) e) i;
     }

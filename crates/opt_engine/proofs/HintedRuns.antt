@@ -7,16 +7,16 @@ use Rattle.std.proofs.lemmas.Bool.Decides.{eqb_tells}
 use Rattle.std.proofs.lemmas.List.{length-replicate}
 use Rattle.twe_program.specs.Program.{Program, cell_count}
 use Rattle.twe_program.specs.WellFormed.{IsWellFormed}
-use Rattle.seg_exec.specs.declared.frame.Frame.{Frame}
-use Rattle.seg_exec.specs.declared.stop.Stop.{Stop}
-use Rattle.seg_exec.specs.Access.{Access, Reads, Writes, Prints, Agrees, Follows, MayAll, after, value_in}
-use Rattle.seg_exec.specs.Plain.{list_ways}
-use Rattle.seg_exec.specs.Segment.{CarriesOut, MayCarryOut, Stopped, segment}
-use Rattle.seg_exec.proofs.Accesses.{may_carry_out}
-use Rattle.twe_machine.proofs.lists.Places.{below_there, set_other, set_same}
-use Rattle.opt_engine.specs.declared.notes.Mark.{Mark}
-use Rattle.opt_engine.specs.declared.notes.Mark.TheVariants as marks
-use Rattle.opt_engine.specs.declared.notes.Notes.{Notes}
+use Rattle.seg_meaning.specs.declared.frame.Frame.{Frame}
+use Rattle.seg_meaning.specs.declared.stop.Stop.{Stop}
+use Rattle.seg_meaning.specs.Access.{Access, Reads, Writes, Prints, Agrees, Follows, MayAll, after, value_in}
+use Rattle.seg_meaning.specs.Plain.{list_ways}
+use Rattle.seg_meaning.specs.Segment.{CarriesOut, MayCarryOut, Stopped, segment}
+use Rattle.seg_meaning.proofs.Accesses.{may_carry_out}
+use Rattle.machine_state.proofs.lists.Places.{below_there, set_other, set_same}
+use Rattle.opt_engine.specs.declared.notes.CellMark.{CellMark}
+use Rattle.opt_engine.specs.declared.notes.CellMark.TheVariants as marks
+use Rattle.opt_engine.specs.declared.notes.CellNotes.{CellNotes}
 use Rattle.opt_engine.specs.declared.touch.CellValue.{CellValue}
 use Rattle.opt_engine.specs.declared.touching.Touching.{Touching}
 use Rattle.opt_engine.specs.Drafts.{IsDraftedOf, StandsIn, unreserved}
@@ -74,7 +74,7 @@ hinted old (Reads cell value ∷ earlier) new none is =
       known = λ k. is.2.2 k ∙ (λ i. if eq_flip k cell i then Some value else before.known k i);
       may = (subst (λ (n : ℕ). cell < n) before.size is.2.0, before.may);
       size = is.2.3 ∙ before.size;
-      notes = λ whole. let last = is.2.4 whole in let first = before.notes last.0 in (first.0, last.1 ∙ ap (λ (n : Notes). read_noted cell value n) first.1);
+      notes = λ whole. let last = is.2.4 whole in let first = before.notes last.0 in (first.0, last.1 ∙ ap (λ (n : CellNotes). read_noted cell value n) first.1);
     }
 hinted old (Writes cell value ∷ earlier) new none is =
     let before = hinted old earlier is.0 none is.1 in
@@ -83,7 +83,7 @@ hinted old (Writes cell value ∷ earlier) new none is =
       known = λ k. is.2.1 k ∙ (λ i. if eq_flip k cell i then Some value else before.known k i);
       may = (subst (λ (n : ℕ). cell < n) before.size is.2.0, before.may);
       size = is.2.2 ∙ before.size;
-      notes = λ whole. let last = is.2.3 whole in let first = before.notes last.0 in (first.0, last.1 ∙ ap (λ (n : Notes). write_noted cell n) first.1);
+      notes = λ whole. let last = is.2.3 whole in let first = before.notes last.0 in (first.0, last.1 ∙ ap (λ (n : CellNotes). write_noted cell n) first.1);
     }
 hinted old (Prints value ∷ earlier) new none is =
     let before = hinted old earlier new none is in
@@ -243,11 +243,11 @@ has_cell_map : (accesses : List Access) (cells : List ℕ) (k : ℕ) → has_cel
 has_cell_map accesses [] k = refl
 has_cell_map accesses (cell ∷ cells) k = ap (λ (b : Bool). nat_eq cell k || b) (has_cell_map accesses cells k)
 
-without_long : (kept : List Mark) (cells : List CellValue) → length (without_marks kept cells) ≡ length kept
+without_long : (kept : List CellMark) (cells : List CellValue) → length (without_marks kept cells) ≡ length kept
 without_long kept [] = refl
 without_long kept (at ∷ others) = without_long (slice_set kept at.cell marks.Untouched) others ∙ length-set kept at.cell marks.Untouched
 
-without_get : (kept : List Mark) (cells : List CellValue) (k : ℕ) → k < length kept
+without_get : (kept : List CellMark) (cells : List CellValue) (k : ℕ) → k < length kept
     → slice_get (without_marks kept cells) k ≡ (if has_cell cells k then Some marks.Untouched else slice_get kept k)
 without_get kept [] k lt = refl
 without_get kept (at ∷ others) k lt =
@@ -262,7 +262,7 @@ without_get kept (at ∷ others) k lt =
           ∙ sym (if_true (nat_eq at.cell k || has_cell others k) (Some marks.Untouched) (slice_get kept k) (ap (λ (b : Bool). b || has_cell others k) same.0)))
           )
       | inr other ↦ (
-          later ∙ (ap (λ (o : Option Mark). if has_cell others k then Some marks.Untouched else o) (set_other kept at.cell k marks.Untouched (λ e. other.1 (sym e)))
+          later ∙ (ap (λ (o : Option CellMark). if has_cell others k then Some marks.Untouched else o) (set_other kept at.cell k marks.Untouched (λ e. other.1 (sym e)))
           ∙ sym (ap (λ (b : Bool). if (b || has_cell others k) then Some marks.Untouched else slice_get kept k) other.0))
           )
     ]
@@ -306,7 +306,7 @@ touched_listed (Writes cell value ∷ earlier) k touched =
 touched_listed (Prints value ∷ earlier) k touched = touched_listed earlier k touched
 
 -- a cell that was touched is among those whose marks are taken away, and any other has no mark
-unmarked_at : (read written touched : Bool) (mark : Mark) → (touched ≡ true → (read || written) ≡ true) → touched ≡ is_mark mark
+unmarked_at : (read written touched : Bool) (mark : CellMark) → (touched ≡ true → (read || written) ≡ true) → touched ≡ is_mark mark
     → (if written then Some marks.Untouched else (if read then Some marks.Untouched else Some mark)) ≡ Some marks.Untouched
 unmarked_at read true touched mark listed is = refl
 unmarked_at true false touched mark listed is = refl
@@ -319,7 +319,7 @@ unmarked : (cells : List ℤ) (accesses : List Access) → MayAll list_ways cell
     → without_marks (without_marks (notes_after accesses (no_notes (length cells))).marks (first_reads accesses)) (last_writes accesses) ≡ replicate (length cells) marks.Untouched
 unmarked cells accesses may =
     let n = length cells in
-    let kept : List Mark = (notes_after accesses (no_notes n)).marks in
+    let kept : List CellMark = (notes_after accesses (no_notes n)).marks in
     let stands = notes_stand cells accesses may in
     let read = without_marks kept (first_reads accesses) in
     let read_long : length read ≡ n = without_long kept (first_reads accesses) ∙ stands.size in
@@ -331,9 +331,9 @@ unmarked cells accesses may =
     let listed : is_touched accesses k ≡ true → (has_cell (first_reads accesses) k || has_cell (last_writes accesses) k) ≡ true =
     λ touched. ap (λ (b : Bool). has_cell (first_reads accesses) k || b) written ∙ touched_listed accesses k touched in
     without_get read (last_writes accesses) k (subst (λ (m : ℕ). k < m) (sym read_long) below)
-    ∙ (ap (λ (o : Option Mark). if has_cell (last_writes accesses) k then Some marks.Untouched else o)
+    ∙ (ap (λ (o : Option CellMark). if has_cell (last_writes accesses) k then Some marks.Untouched else o)
     (without_get kept (first_reads accesses) k (subst (λ (m : ℕ). k < m) (sym stands.size) below)
-    ∙ ap (λ (o : Option Mark). if has_cell (first_reads accesses) k then Some marks.Untouched else o) (stands.marked k below))
+    ∙ ap (λ (o : Option CellMark). if has_cell (first_reads accesses) k then Some marks.Untouched else o) (stands.marked k below))
     ∙ (unmarked_at (has_cell (first_reads accesses) k) (has_cell (last_writes accesses) k) (is_touched accesses k) (mark_of accesses k) listed (touched_is accesses k)
     ∙ sym (get_replicate n k marks.Untouched below))))
 
@@ -344,7 +344,7 @@ no_mark zero k value = refl
 no_mark (suc n) zero value = refl
 no_mark (suc n) (suc k) value = no_mark n k value
 
-cell_known : (mark : Option Mark) (value : Option ℤ) (v : ℤ) → known_by mark value ≡ Some v → value ≡ Some v
+cell_known : (mark : Option CellMark) (value : Option ℤ) (v : ℤ) → known_by mark value ≡ Some v → value ≡ Some v
 cell_known None value v is = absurd (cc (is))
 cell_known (Some marks.Untouched) value v is = absurd (cc (is))
 cell_known (Some marks.Read) value v is = is
@@ -387,10 +387,10 @@ module _ (p : Program) (task : ℕ) (frame new_frame : Frame) (old new : Touchin
   made = sym (ap (λ (r : Stopped). r.accesses) means)
 
   noted : new.notes ≡ notes_after carried.accesses (no_notes (length cells))
-  noted = (run.notes whole).1 ∙ ap (λ (n : Notes). notes_after carried.accesses n) (ap (λ (t : Touching). t.notes) begun ∙ ap no_notes (sym long))
+  noted = (run.notes whole).1 ∙ ap (λ (n : CellNotes). notes_after carried.accesses n) (ap (λ (t : Touching). t.notes) begun ∙ ap no_notes (sym long))
 
   reads : new.notes.reads ≡ first_reads carried.accesses
-  reads = ap (λ (n : Notes). n.reads) noted ∙ (notes_stand cells carried.accesses may).reads
+  reads = ap (λ (n : CellNotes). n.reads) noted ∙ (notes_stand cells carried.accesses may).reads
 
   same_value : (k : ℕ) → IsWrittenOf (length cells) carried.accesses k → value_at new.cells k ≡ value_at (after cells carried.accesses) k
   same_value k is =
@@ -400,7 +400,7 @@ module _ (p : Program) (task : ℕ) (frame new_frame : Frame) (old new : Touchin
 
   writes : map (value_at new.cells) new.notes.written ≡ last_writes carried.accesses
   writes =
-      ap (map (value_at new.cells)) (ap (λ (n : Notes). n.written) noted ∙ (notes_stand cells carried.accesses may).written)
+      ap (map (value_at new.cells)) (ap (λ (n : CellNotes). n.written) noted ∙ (notes_stand cells carried.accesses may).written)
       ∙ (map_same (value_at new.cells) (value_at (after cells carried.accesses)) (written_cells carried.accesses)
       (each_weaker (IsWrittenOf (length cells) carried.accesses) (λ (k : ℕ). value_at new.cells k ≡ value_at (after cells carried.accesses) k) (written_cells carried.accesses) same_value
       (written_each cells carried.accesses may))
@@ -424,11 +424,11 @@ module _ (p : Program) (task : ℕ) (frame new_frame : Frame) (old new : Touchin
   -- its marks can be taken away
   pub leaves_none : without_marks (without_marks new.notes.marks new.notes.reads) (map (value_at new.cells) new.notes.written) ≡ replicate (length new.cells) marks.Untouched
   leaves_none =
-      (λ i. without_marks (without_marks (ap (λ (n : Notes). n.marks) noted i) (reads i)) (writes i))
+      (λ i. without_marks (without_marks (ap (λ (n : CellNotes). n.marks) noted i) (reads i)) (writes i))
       ∙ (unmarked cells carried.accesses may ∙ ap (λ (n : ℕ). replicate n marks.Untouched) (long ∙ sym run.size))
 
   marks_long : length new.notes.marks ≡ length cells
-  marks_long = ap (λ (n : Notes). length n.marks) noted ∙ (notes_stand cells carried.accesses may).size
+  marks_long = ap (λ (n : CellNotes). length n.marks) noted ∙ (notes_stand cells carried.accesses may).size
 
   pub reads_marked : All (λ (r : CellValue). r.cell < length new.notes.marks) new.notes.reads
   reads_marked =

@@ -2,11 +2,11 @@
 use Rattle.std.proofs.Common.{◌≡◌, ◌≢◌, ◌<◌, ℕ, ℤ, List, length, Option, None, Some, refl, sym, ap, ◌∙◌, subst, inl, inr, length-set}
 use Rattle.std.specs.Prelude.{◌↔◌, nat_eq, slice_get, slice_set}
 use Rattle.std.proofs.lemmas.Bool.Decides.{eqb_tells}
-use Rattle.seg_exec.specs.Access.{HasRead, HasWritten, KnowsNow}
-use Rattle.twe_machine.proofs.lists.Places.{below_there, set_other, set_same}
-use Rattle.opt_engine.specs.declared.notes.Mark.{Mark}
-use Rattle.opt_engine.specs.declared.notes.Mark.TheVariants as marks
-use Rattle.opt_engine.specs.declared.notes.Notes.{Notes}
+use Rattle.seg_meaning.specs.Access.{HasRead, HasWritten, KnowsNow}
+use Rattle.machine_state.proofs.lists.Places.{below_there, set_other, set_same}
+use Rattle.opt_engine.specs.declared.notes.CellMark.{CellMark}
+use Rattle.opt_engine.specs.declared.notes.CellMark.TheVariants as marks
+use Rattle.opt_engine.specs.declared.notes.CellNotes.{CellNotes}
 use Rattle.opt_engine.specs.declared.touching.Touching.{Touching}
 use Rattle.opt_engine.specs.inner.Hinting.{IsNoted, hint_knows, hint_ways, known_by}
 use Rattle.opt_engine.specs.inner.Noting.{MayTouch, read_by_mark, read_noted, write_by_mark, write_noted}
@@ -33,17 +33,17 @@ may_same old new cells marked k = (
 )
 
 -- the mark of a cell once it was written
-written_mark : (notes : Notes) (cell : ℕ) (mark : Mark) → slice_get notes.marks cell ≡ Some mark → slice_get (write_by_mark (Some mark) cell notes).marks cell ≡ Some marks.Written
+written_mark : (notes : CellNotes) (cell : ℕ) (mark : CellMark) → slice_get notes.marks cell ≡ Some mark → slice_get (write_by_mark (Some mark) cell notes).marks cell ≡ Some marks.Written
 written_mark notes cell marks.Untouched is = set_same notes.marks cell marks.Untouched marks.Written is
 written_mark notes cell marks.Read is = set_same notes.marks cell marks.Read marks.Written is
 written_mark notes cell marks.Written is = is
 
-written_other : (notes : Notes) (cell k : ℕ) (mark : Mark) → k ≢ cell → slice_get (write_by_mark (Some mark) cell notes).marks k ≡ slice_get notes.marks k
+written_other : (notes : CellNotes) (cell k : ℕ) (mark : CellMark) → k ≢ cell → slice_get (write_by_mark (Some mark) cell notes).marks k ≡ slice_get notes.marks k
 written_other notes cell k marks.Untouched other = set_other notes.marks cell k marks.Written other
 written_other notes cell k marks.Read other = set_other notes.marks cell k marks.Written other
 written_other notes cell k marks.Written other = refl
 
-written_long : (notes : Notes) (cell : ℕ) (mark : Mark) → length (write_by_mark (Some mark) cell notes).marks ≡ length notes.marks
+written_long : (notes : CellNotes) (cell : ℕ) (mark : CellMark) → length (write_by_mark (Some mark) cell notes).marks ≡ length notes.marks
 written_long notes cell marks.Untouched = length-set notes.marks cell marks.Written
 written_long notes cell marks.Read = length-set notes.marks cell marks.Written
 written_long notes cell marks.Written = refl
@@ -63,14 +63,14 @@ module _ (old new : Touching) (cell : ℕ) (value : ℤ) (may : MayTouch old cel
       → IsNoted old (read_noted cell value old.notes) new → HasRead hint_ways old cell value new
   read_first_is first marked noted =
       let marked_so : new.notes.marks ≡ slice_set old.notes.marks cell marks.Read =
-      marked ∙ ap (λ (m : Option Mark). (read_by_mark m cell value old.notes).marks) first in
+      marked ∙ ap (λ (m : Option CellMark). (read_by_mark m cell value old.notes).marks) first in
       let own_mark : slice_get new.notes.marks cell ≡ Some marks.Read =
-      ap (λ (l : List Mark). slice_get l cell) marked_so ∙ set_here old.notes.marks cell marks.Read may.mark in
+      ap (λ (l : List CellMark). slice_get l cell) marked_so ∙ set_here old.notes.marks cell marks.Read may.mark in
       let knows = knows_now old new cell value (λ i. known_by (own_mark i) (own_value i))
-      (λ k other. λ i. known_by ((ap (λ (l : List Mark). slice_get l k) marked_so ∙ set_other old.notes.marks cell k marks.Read other) i) (other_value k other i)) in
+      (λ k other. λ i. known_by ((ap (λ (l : List CellMark). slice_get l k) marked_so ∙ set_other old.notes.marks cell k marks.Read other) i) (other_value k other i)) in
       let same = may_same old new long (ap length marked_so ∙ length-set old.notes.marks cell marks.Read) in
       let answer : (v : ℤ) → hint_knows old cell ≡ Some v → value ≡ v = λ v known.
-      let none : hint_knows old cell ≡ None = ap (λ (m : Option Mark). known_by m (slice_get old.cells cell)) first in absurd (cc (none, known)) in
+      let none : hint_knows old cell ≡ None = ap (λ (m : Option CellMark). known_by m (slice_get old.cells cell)) first in absurd (cc (none, known)) in
       record {
         answer = answer;
         known = knows;
@@ -82,10 +82,10 @@ module _ (old new : Touching) (cell : ℕ) (value : ℤ) (may : MayTouch old cel
   pub written_is : new.notes.marks ≡ (write_noted cell old.notes).marks → IsNoted old (write_noted cell old.notes) new → HasWritten hint_ways old cell value new
   written_is marked noted =
       let was = below_there old.notes.marks cell may.mark in
-      let marked_so : new.notes.marks ≡ (write_by_mark (Some was.0) cell old.notes).marks = marked ∙ ap (λ (m : Option Mark). (write_by_mark m cell old.notes).marks) was.1 in
-      let own_mark : slice_get new.notes.marks cell ≡ Some marks.Written = ap (λ (l : List Mark). slice_get l cell) marked_so ∙ written_mark old.notes cell was.0 was.1 in
+      let marked_so : new.notes.marks ≡ (write_by_mark (Some was.0) cell old.notes).marks = marked ∙ ap (λ (m : Option CellMark). (write_by_mark m cell old.notes).marks) was.1 in
+      let own_mark : slice_get new.notes.marks cell ≡ Some marks.Written = ap (λ (l : List CellMark). slice_get l cell) marked_so ∙ written_mark old.notes cell was.0 was.1 in
       let knows = knows_now old new cell value (λ i. known_by (own_mark i) (own_value i))
-      (λ k other. λ i. known_by ((ap (λ (l : List Mark). slice_get l k) marked_so ∙ written_other old.notes cell k was.0 other) i) (other_value k other i)) in
+      (λ k other. λ i. known_by ((ap (λ (l : List CellMark). slice_get l k) marked_so ∙ written_other old.notes cell k was.0 other) i) (other_value k other i)) in
       let same = may_same old new long (ap length marked_so ∙ written_long old.notes cell was.0) in
       record {
         known = knows;
@@ -94,15 +94,15 @@ module _ (old new : Touching) (cell : ℕ) (value : ℤ) (may : MayTouch old cel
       }
 
 -- the read of a cell that was touched before
-module _ (t : Touching) (cell : ℕ) (value : ℤ) (mark : Mark) (may : MayTouch t cell) (is : slice_get t.notes.marks cell ≡ Some mark)
+module _ (t : Touching) (cell : ℕ) (value : ℤ) (mark : CellMark) (may : MayTouch t cell) (is : slice_get t.notes.marks cell ≡ Some mark)
     (kept : read_by_mark (Some mark) cell value t.notes ≡ t.notes) (known_is : known_by (Some mark) (slice_get t.cells cell) ≡ Some value) where
   pub read_again_is : HasRead hint_ways t cell value t
   read_again_is =
-      let own : hint_knows t cell ≡ Some value = ap (λ (m : Option Mark). known_by m (slice_get t.cells cell)) is ∙ known_is in
+      let own : hint_knows t cell ≡ Some value = ap (λ (m : Option CellMark). known_by m (slice_get t.cells cell)) is ∙ known_is in
       let knows = knows_now t t cell value own (λ k other. refl) in
       let same = may_same t t refl refl in
       let answer : (v : ℤ) → hint_knows t cell ≡ Some v → value ≡ v = λ v known. cc (own, known) in
-      let notes : t.notes ≡ read_noted cell value t.notes = sym (ap (λ (m : Option Mark). read_by_mark m cell value t.notes) is ∙ kept) in
+      let notes : t.notes ≡ read_noted cell value t.notes = sym (ap (λ (m : Option CellMark). read_by_mark m cell value t.notes) is ∙ kept) in
       record {
         answer = answer;
         known = knows;

@@ -11,18 +11,18 @@ use Rattle.wait_graph.specs.Link.{link_of}
 use Rattle.wait_graph.specs.Waiting.{WaitsFor}
 use Rattle.twe_program.specs.Program.{Program}
 use Rattle.twe_program.specs.WellFormed.{IsWellFormed}
-use Rattle.seg_exec.specs.declared.frame.Next.TheVariants.{Go}
-use Rattle.twe_machine.specs.declared.state.State.{State}
-use Rattle.twe_machine.specs.declared.state.TaskRow.{TaskRow}
-use Rattle.twe_machine.specs.declared.state.TaskStatus.{TaskStatus}
-use Rattle.twe_machine.specs.declared.state.TaskStatus.TheVariants.{Made, Enabled}
-use Rattle.twe_machine.specs.Legal.{MayRun}
-use Rattle.twe_machine.specs.Moves.{admitted, admitted_row, move_result}
-use Rattle.twe_machine.specs.Rows.{HasStatus, IsRow, row_awaited, link_of_row}
-use Rattle.twe_machine.specs.Runs.{IsReached, IsRun, entry_of}
-use Rattle.twe_machine.proofs.links.Linked.{link_at}
-use Rattle.twe_machine.proofs.lists.Places.{set_same}
-use Rattle.twe_machine.proofs.standing.ReachedStands.{reached_stands}
+use Rattle.seg_meaning.specs.declared.frame.Next.TheVariants.{Go}
+use Rattle.machine_state.specs.declared.state.State.{State}
+use Rattle.machine_state.specs.declared.state.TaskRow.{TaskRow}
+use Rattle.machine_state.specs.declared.state.TaskStatus.{TaskStatus}
+use Rattle.machine_state.specs.declared.state.TaskStatus.TheVariants.{Made, Enabled}
+use Rattle.machine_state.specs.Legal.{MayRun}
+use Rattle.machine_state.specs.Moves.{admitted, admitted_row, move_result}
+use Rattle.machine_state.specs.Rows.{HasStatus, IsRow, row_awaited, link_of_row}
+use Rattle.machine_state.specs.Runs.{IsReached, IsRun, entry_of}
+use Rattle.machine_state.proofs.links.Linked.{link_at}
+use Rattle.machine_state.proofs.lists.Places.{set_same}
+use Rattle.machine_state.proofs.standing.ReachedStands.{reached_stands}
 use Rattle.opt_engine.specs.declared.core_run.CoreRun.{CoreRun}
 use Rattle.opt_engine.specs.NextMoves.{AnswersNext, GoesNext, MayTakeNext, TakesNext}
 use Rattle.opt_engine.specs.Taking.{TakingSteps}

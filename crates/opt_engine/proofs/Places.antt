@@ -4,7 +4,7 @@ use Rattle.std.specs.List.{All}
 use Rattle.std.specs.Prelude.{◌||◌, if◌then◌else◌, nat_eq, slice_get, slice_set}
 use Rattle.std.proofs.lemmas.Bool.{false≢true}
 use Rattle.std.proofs.lemmas.Bool.Decides.{eqb_tells}
-use Rattle.twe_machine.proofs.lists.Places.{set_other, set_same}
+use Rattle.machine_state.proofs.lists.Places.{set_other, set_same}
 
 -- Choices by a test.
 

@@ -10,25 +10,25 @@ use Rattle.twe_base.specs.Limits.{Bounds}
 use Rattle.twe_base.specs.declared.fault.FaultKind.TheVariants.{TaskLimit}
 use Rattle.wait_graph.specs.Link.{link_of}
 use Rattle.twe_program.specs.Program.{Program}
-use Rattle.seg_exec.specs.declared.frame.Frame.{Frame}
-use Rattle.seg_exec.specs.declared.frame.Next.{Next}
-use Rattle.seg_exec.specs.declared.frame.Next.TheVariants.{Go, Get, Join, Closing, Ended}
-use Rattle.seg_exec.specs.declared.operation.Operation.TheVariants as operations
-use Rattle.seg_exec.specs.declared.stop.Stop.{Stop}
-use Rattle.seg_exec.specs.declared.stop.Stop.TheVariants as stops
-use Rattle.seg_exec.specs.Giving.{given_by}
-use Rattle.seg_exec.specs.Segment.{Stopped, closing_stop, flow_of, room_to_spawn, segment, stopped_by, waiting_stop}
-use Rattle.seg_exec.specs.Store.{Flow, goes, returns, fails}
-use Rattle.seg_exec.specs.Store as flows
-use Rattle.twe_machine.specs.declared.state.State.{State}
-use Rattle.twe_machine.specs.declared.state.TaskRow.{TaskRow}
-use Rattle.twe_machine.specs.declared.state.TaskStatus.TheVariants.{Made, Enabled, Faulted}
-use Rattle.twe_machine.specs.Legal.{MayTake}
-use Rattle.twe_machine.specs.Moves.{admitted, admitted_row, awaited_value, done_row, faulted_row, going_row, joined_child, joined_row, joined_rows, making_frame, new_row, parent_of, ran, ready_frame, result_by_kind, room_with, start_of, state_after_asking, state_after_fault, state_after_join, state_after_make, stop_result, stopped_frame}
-use Rattle.twe_machine.specs.Rows.{HasStatus, IsRow, row_awaited}
-use Rattle.twe_machine.specs.Runs.{IsReached, LegalFrom, replayed}
-use Rattle.twe_machine.proofs.links.LinksAgree.{status_of}
-use Rattle.twe_machine.proofs.lists.Places.{got_one, put_cases, set_cases}
+use Rattle.seg_meaning.specs.declared.frame.Frame.{Frame}
+use Rattle.seg_meaning.specs.declared.frame.Next.{Next}
+use Rattle.seg_meaning.specs.declared.frame.Next.TheVariants.{Go, Get, Join, Closing, Ended}
+use Rattle.seg_meaning.specs.declared.operation.Operation.TheVariants as operations
+use Rattle.seg_meaning.specs.declared.stop.Stop.{Stop}
+use Rattle.seg_meaning.specs.declared.stop.Stop.TheVariants as stops
+use Rattle.seg_meaning.specs.Giving.{given_by}
+use Rattle.seg_meaning.specs.Segment.{Stopped, closing_stop, flow_of, room_to_spawn, segment, stopped_by, waiting_stop}
+use Rattle.seg_meaning.specs.Store.{Flow, goes, returns, fails}
+use Rattle.seg_meaning.specs.Store as flows
+use Rattle.machine_state.specs.declared.state.State.{State}
+use Rattle.machine_state.specs.declared.state.TaskRow.{TaskRow}
+use Rattle.machine_state.specs.declared.state.TaskStatus.TheVariants.{Made, Enabled, Faulted}
+use Rattle.machine_state.specs.Legal.{MayTake}
+use Rattle.machine_state.specs.Moves.{admitted, admitted_row, awaited_value, done_row, faulted_row, going_row, joined_child, joined_row, joined_rows, making_frame, new_row, parent_of, ran, ready_frame, result_by_kind, room_with, start_of, state_after_asking, state_after_fault, state_after_join, state_after_make, stop_result, stopped_frame}
+use Rattle.machine_state.specs.Rows.{HasStatus, IsRow, row_awaited}
+use Rattle.machine_state.specs.Runs.{IsReached, LegalFrom, replayed}
+use Rattle.machine_state.proofs.links.LinksAgree.{status_of}
+use Rattle.machine_state.proofs.lists.Places.{got_one, put_cases, set_cases}
 use Rattle.opt_engine.specs.Drafts.{unreserved}
 
 abbrev pub IsPlainRow : TaskRow → Type 0

@@ -1,7 +1,7 @@
 -- Frames with the same parts are the same, but for memory that is reserved.
 use Rattle.std.proofs.Common.{◌≡◌, Bool, false, ap}
 use Rattle.std.specs.Prelude.{◌↔◌, IsTrue}
-use Rattle.seg_exec.specs.declared.frame.Frame.{Frame}
+use Rattle.seg_meaning.specs.declared.frame.Frame.{Frame}
 use Rattle.opt_engine.specs.Drafts.{unreserved}
 use Rattle.opt_engine.specs.inner.Frames.{SameContents, SameProgress}
 

@@ -4,8 +4,8 @@ use mathlib.Core.List.{IsPrefix}
 use Rattle.seg_journal.specs.declared.journal.Entry.{Entry}
 use Rattle.twe_base.specs.Limits.{Bounds}
 use Rattle.twe_program.specs.Program.{Program}
-use Rattle.twe_machine.specs.Moves.{start_of}
-use Rattle.twe_machine.specs.Runs.{IsReached, IsRun}
+use Rattle.machine_state.specs.Moves.{start_of}
+use Rattle.machine_state.specs.Runs.{IsReached, IsRun}
 use Rattle.opt_engine.specs.declared.core_run.CoreRun.{CoreRun}
 use Rattle.twe_rounds.proofs.Beginnings.{prefix_self, prefix_trans}
 use Rattle.opt_engine.specs.declared.drafts.Drafted.{Drafted}

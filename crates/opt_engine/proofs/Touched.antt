@@ -3,9 +3,9 @@ use Rattle.std.proofs.Common.{◌≡◌, ◌<◌, ℕ, ℤ, Bool, true, false, L
 use Rattle.std.specs.Prelude.{◌||◌, if◌then◌else◌, is_some, nat_eq, slice_get, slice_set}
 use Rattle.std.proofs.lemmas.Bool.{eqb-true, false≢true, or_cases}
 use Rattle.std.proofs.lemmas.Bool.Decides.{eqb_tells}
-use Rattle.seg_exec.specs.Access.{Access, Reads, Writes, Prints, Agrees, MayAll, after, value_in}
-use Rattle.seg_exec.specs.Plain.{list_ways}
-use Rattle.twe_machine.proofs.lists.Places.{below_there, set_other, set_same}
+use Rattle.seg_meaning.specs.Access.{Access, Reads, Writes, Prints, Agrees, MayAll, after, value_in}
+use Rattle.seg_meaning.specs.Plain.{list_ways}
+use Rattle.machine_state.proofs.lists.Places.{below_there, set_other, set_same}
 use Rattle.opt_engine.specs.declared.touch.CellValue.{CellValue}
 use Rattle.opt_engine.specs.inner.Noting.{value_at}
 use Rattle.opt_engine.specs.Drafts.{StandsIn}

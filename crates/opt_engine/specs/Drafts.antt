@@ -2,14 +2,14 @@
 use Rattle.std.specs.Prelude.{◌≡◌, ◌⊎◌, ℕ, ℤ, List, length, Some, slice_get}
 use Rattle.std.specs.List.{All}
 use Rattle.twe_program.specs.Program.{Program, cell_count}
-use Rattle.seg_exec.specs.declared.frame.Frame.{Frame}
-use Rattle.seg_exec.specs.Segment.{segment}
-use Rattle.twe_machine.specs.declared.state.State.{State}
-use Rattle.twe_machine.specs.declared.state.TaskRow.{TaskRow}
-use Rattle.twe_machine.specs.declared.state.TaskStatus.TheVariants.{Made}
-use Rattle.twe_machine.specs.Legal.{MayRun}
-use Rattle.twe_machine.specs.Moves.{ready_frame}
-use Rattle.twe_machine.specs.Rows.{HasStatus, IsRow}
+use Rattle.seg_meaning.specs.declared.frame.Frame.{Frame}
+use Rattle.seg_meaning.specs.Segment.{segment}
+use Rattle.machine_state.specs.declared.state.State.{State}
+use Rattle.machine_state.specs.declared.state.TaskRow.{TaskRow}
+use Rattle.machine_state.specs.declared.state.TaskStatus.TheVariants.{Made}
+use Rattle.machine_state.specs.Legal.{MayRun}
+use Rattle.machine_state.specs.Moves.{ready_frame}
+use Rattle.machine_state.specs.Rows.{HasStatus, IsRow}
 use Rattle.opt_engine.specs.declared.touch.CellValue.{CellValue}
 use Rattle.opt_engine.specs.declared.drafts.Draft.{Draft}
 use Rattle.opt_engine.specs.declared.drafts.Drafted.{Drafted}

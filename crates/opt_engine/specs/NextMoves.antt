@@ -3,9 +3,9 @@ use Rattle.std.specs.Prelude.{◌≡◌, ◌+◌, ◌++◌, ℕ, List, length, O
 use Rattle.seg_journal.specs.declared.journal.Entry.{Entry}
 use Rattle.twe_base.specs.Limits.{Bounds}
 use Rattle.twe_program.specs.Program.{Program}
-use Rattle.twe_machine.specs.declared.state.State.{State}
-use Rattle.twe_machine.specs.declared.state.TaskRow.{TaskRow}
-use Rattle.twe_machine.specs.Rows.{IsRow}
+use Rattle.machine_state.specs.declared.state.State.{State}
+use Rattle.machine_state.specs.declared.state.TaskRow.{TaskRow}
+use Rattle.machine_state.specs.Rows.{IsRow}
 use Rattle.opt_engine.specs.declared.core_run.CoreRun.{CoreRun}
 use Rattle.opt_engine.specs.Drafts.{DraftIsReady}
 use Rattle.opt_engine.specs.Verdicts.{AreLegalFrom, IsFree, RunGoesOn, entries_from, moves_of, state_from}

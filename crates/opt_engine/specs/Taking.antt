@@ -3,8 +3,8 @@ use Rattle.std.specs.Prelude.{◌≡◌, ◌++◌, [], ◌∷◌}
 use Rattle.seg_journal.specs.declared.moves.Move.{Move}
 use Rattle.twe_base.specs.Limits.{Bounds}
 use Rattle.twe_program.specs.Program.{Program}
-use Rattle.twe_machine.specs.Moves.{move_result}
-use Rattle.twe_machine.specs.Runs.{IsRun, entry_of}
+use Rattle.machine_state.specs.Moves.{move_result}
+use Rattle.machine_state.specs.Runs.{IsRun, entry_of}
 use Rattle.opt_engine.specs.declared.core_run.CoreRun.{CoreRun}
 
 -- the run took this move: its entry comes after the others, and the state is the one after the move

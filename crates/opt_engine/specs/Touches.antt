@@ -1,7 +1,7 @@
 -- The cells that a segment touches: what it reads before it writes, and what it leaves written. Lists of accesses have
 -- the latest first.
 use Rattle.std.specs.Prelude.{ℕ, ℤ, Bool, false, ◌||◌, List, [], ◌∷◌, ◌++◌, map, Option, None, Some, is_some, nat_eq, if◌then◌else◌, slice_set}
-use Rattle.seg_exec.specs.Access.{Access, Reads, Writes, Prints, value_in}
+use Rattle.seg_meaning.specs.Access.{Access, Reads, Writes, Prints, value_in}
 use Rattle.opt_engine.specs.declared.touch.CellValue.{CellValue}
 
 -- the cell was read or written

@@ -2,7 +2,7 @@
 ghost use Rattle.std.specs.Prelude.{IfOk, Some};
 ghost use mathlib.Core.List.{IsPrefix};
 ghost use Rattle.twe_machine.specs.Listings.{IsListing};
-ghost use Rattle.twe_machine.specs.Runs.{IsRun};
+ghost use Rattle.machine_state.specs.Runs.{IsRun};
 ghost use Rattle.opt_engine.specs.Drafts.{IsDraftedOf};
 ghost use Rattle.opt_engine.specs.Verdicts.{Judges};
 
@@ -18,7 +18,7 @@ use twe_machine::EnabledTasks;
 use twe_program::Prog;
 
 /// Takes the moves that a draft stands for, if it fits and they are legal, and else says why not. Then the run is as before.
-/// The enabled tasks are those of the run. The words of the hints have what was written.
+/// The enabled tasks are those of the run. By its code it stores what was written to the hints.
 #[tactic(auto, using(crate::proofs::Told::takes_begin, crate::proofs::Told::begins_itself, crate::proofs::Told::reached_of))]
 pub(crate) fn answer(
     alloc: Global,

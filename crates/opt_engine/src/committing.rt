@@ -1,9 +1,9 @@
 //! Taking the moves that a draft stands for.
 ghost use Rattle.std.specs.Prelude.{◌≡◌, ◌<◌, IfOk, OnOk, length, slice_set};
 ghost use Rattle.std.specs.List.{All};
-ghost use Rattle.twe_machine.specs.Legal.{MayAdmit, MayRun};
+ghost use Rattle.machine_state.specs.Legal.{MayAdmit, MayRun};
 ghost use Rattle.twe_machine.specs.Listings.{IsListing};
-ghost use Rattle.twe_machine.specs.Runs.{IsRun};
+ghost use Rattle.machine_state.specs.Runs.{IsRun};
 ghost use Rattle.opt_engine.specs.Drafts.{Fits, IsDraftedOf};
 ghost use Rattle.opt_engine.specs.Touches.{with_writes};
 ghost use Rattle.opt_engine.specs.Verdicts.{IsFree, Takes};
@@ -13,8 +13,8 @@ ghost use Rattle.opt_engine.specs.inner.Judging.{Admits};
 use crate::core_run::CoreRun;
 use crate::drafts::Drafted;
 use crate::hints::Hints;
-use crate::readiness::is_made;
 use crate::touch::CellValue;
+use flat_sched::is_made;
 use seg_journal::{Entry, Kind, Move};
 use std::alloc::Global;
 use twe_base::{Ints, Limits, Memory};
@@ -22,7 +22,8 @@ use twe_machine::{EnabledTasks, settle};
 use twe_program::Prog;
 
 /// Takes the moves of a draft that fits and whose task may be admitted if it waits for that. Returns the run and the number
-/// of the last entry, counted from 0. The enabled tasks are those of the run. The words of the hints have what was written.
+/// of the last entry, counted from 0. The enabled tasks are those of the run. By its code it stores what was written to the
+/// hints.
 pub(crate) fn take_moves(
     alloc: Global,
     p: &Prog,

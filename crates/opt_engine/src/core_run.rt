@@ -1,16 +1,17 @@
 //! The run of a core so far, and the next move of it.
 ghost use Rattle.std.specs.Prelude.{◌≡◌, [], IfOk, OnOk};
-ghost use Rattle.twe_machine.specs.Legal.{MayMove, MayRun};
-ghost use Rattle.twe_machine.specs.Moves.{start_of};
-ghost use Rattle.twe_machine.specs.Runs.{IsRun};
+ghost use Rattle.machine_state.specs.Legal.{MayMove, MayRun};
+ghost use Rattle.machine_state.specs.Moves.{start_of};
+ghost use Rattle.machine_state.specs.Runs.{IsRun};
 ghost use Rattle.opt_engine.specs.Taking.{TakingSteps};
 
 use crate::hints::Hints;
 use crate::mirrored::run_mirrored;
+use machine_state::State;
 use seg_journal::{Entry, Journal, Kind, Move};
 use std::alloc::Global;
 use twe_base::{Limits, Memory};
-use twe_machine::{State, start, step};
+use twe_machine::{start, step};
 use twe_program::Prog;
 
 /// The journal of a run so far, and the state to which it leads.
@@ -44,8 +45,8 @@ impl CoreRun {
         Ok(())
     }
 
-    /// Runs the next segment of a task that may run, and enters the move into the journal. The words of the hints have what the
-    /// segment has written. After `Memory` the run can only be dropped.
+    /// Runs the next segment of a task that may run, and enters the move into the journal. By its code it stores what the
+    /// segment writes to the hints. After `Memory` the run can only be dropped.
     pub(crate) fn run_shown(
         &mut self,
         alloc: Global,

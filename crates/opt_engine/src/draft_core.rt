@@ -1,7 +1,7 @@
 //! A run to which drafts are committed.
 ghost use Rattle.std.specs.Prelude.{◌≡◌, [], Some, None, IfOk, OnErr, option_copied};
 ghost use Rattle.twe_program.specs.Program.{cell_count};
-ghost use Rattle.twe_machine.specs.Moves.{start_of};
+ghost use Rattle.machine_state.specs.Moves.{start_of};
 ghost use Rattle.opt_engine.specs.Drafts.{IsDraftedOf};
 ghost use Rattle.opt_engine.specs.NextMoves.{AnswersNext};
 ghost use Rattle.opt_engine.specs.Verdicts.{AnswersCommit, Drafts, HoldsBack, RunGoesOn, IsKept, Starts};
@@ -11,17 +11,19 @@ use crate::core_run::CoreRun;
 use crate::drafts::{Draft, Drafted};
 use crate::hints::Hints;
 use crate::judging::some_bar;
+use crate::named::RoundName;
 use crate::next_moves::go_next;
 use crate::readiness::{draft_of, next_start};
 use crate::scratch::{Scratch, scratch_of};
 use crate::starts::Start;
 use crate::verdict::Verdict;
+use machine_state::links_agree;
 use std::alloc::Global;
 use std::marker::{Model, PhantomData};
 use twe_base::{Limits, Memory};
-use twe_machine::{EnabledTasks, links_agree};
+use twe_machine::EnabledTasks;
 use twe_program::Prog;
-use twe_rounds::{RoundName, lost};
+use twe_rounds::lost;
 
 /// A run of the named program under the named limits, which goes on from the named journal. Once memory runs out while a
 /// draft is committed, the run is lost, and every later call answers `Memory`.
@@ -150,7 +152,7 @@ impl<N: RoundName> Core<N> {
         self.commit_shown(p, d, &Hints::none(self.alloc))
     }
 
-    /// The same, and the words of these hints have what was written.
+    /// The same. By its code it stores what a committed draft wrote to these hints. No clause says so.
     pub fn commit_shown(&mut self, p: &Prog, d: Drafted, hints: &Hints) -> Result<Verdict, Memory>
         requires named { p.now ≡ N.prog }
         requires drafted { IsDraftedOf p.now d }
@@ -165,8 +167,8 @@ impl<N: RoundName> Core<N> {
 
     /// Takes the moves of the next segment of a task without a draft, if they are legal: its admission first, if it waits for
     /// that. Returns the number of the last entry, counted from 0, or `None` if they are not legal. Then nothing has changed.
-    /// The words of these hints have what was written.
-    pub fn go_on(&mut self, p: &Prog, t: u32, hints: &Hints) -> Result<Option<u64>, Memory>
+    /// By its code it stores what the segment wrote to these hints. No clause says so.
+    pub fn take_next(&mut self, p: &Prog, t: u32, hints: &Hints) -> Result<Option<u64>, Memory>
         requires named { p.now ≡ N.prog }
         ensures ok { IfOk result (λ number. AnswersNext N.prog N.lim N.earlier self.old t number self.new) }
         ensures err { OnErr result (self.new ≡ None) }

@@ -5,7 +5,7 @@ ghost use Rattle.std.specs.Prelude.{◌≡◌, ◌↔◌, IfOk, IsTrue};
 ghost use Rattle.opt_engine.specs.Drafts.{unreserved};
 ghost use Rattle.opt_engine.specs.inner.Frames.{SameContents, SameProgress};
 
-use seg_exec::{Children, Frame, OpenBody, Position};
+use seg_meaning::{Children, Frame, OpenBody, Position};
 use std::alloc::Global;
 use twe_base::Memory;
 

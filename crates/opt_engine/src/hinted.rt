@@ -1,15 +1,15 @@
 //! Cells whose values are learned from hints at their first access.
 ghost use Rattle.std.specs.Prelude.{◌≡◌, ◌<◌, length, slice_get, Some};
-ghost use Rattle.seg_exec.specs.Access.{HasRead, HasWritten};
+ghost use Rattle.seg_meaning.specs.Access.{HasRead, HasWritten};
 ghost use Rattle.opt_engine.specs.inner.Hinting.{HintFollows, IsNoted, hint_knows, hint_ways};
 ghost use Rattle.opt_engine.specs.inner.Noting.{MayTouch, read_noted, write_noted};
 
 use crate::hints::Hints;
-use crate::notes::Mark;
+use crate::notes::CellMark;
 use crate::touching::Touching;
-use run_gates::Gate;
-use seg_exec::Cells;
+use seg_meaning::Cells;
 use std::marker::Model;
+use steal_pool::gates::Gate;
 
 /// Reads a cell. If it was not touched before, its value is that of its hint.
 fn read_hinted(touching: &mut Touching, hints: &Hints, cell: u32) -> i32
@@ -17,16 +17,16 @@ fn read_hinted(touching: &mut Touching, hints: &Hints, cell: u32) -> i32
     ensures { HasRead hint_ways touching.old cell result touching.new }
 {
     match touching.notes.marks.as_slice()[cell as usize] {
-        Mark::Untouched => read_first(touching, cell, hints.load(cell)),
-        Mark::Read => touching.cells.as_slice()[cell as usize],
-        Mark::Written => touching.cells.as_slice()[cell as usize],
+        CellMark::Untouched => read_first(touching, cell, hints.load(cell)),
+        CellMark::Read => touching.cells.as_slice()[cell as usize],
+        CellMark::Written => touching.cells.as_slice()[cell as usize],
     }
 }
 
 /// Reads a cell that was not touched before and has this value.
 fn read_first(touching: &mut Touching, cell: u32, value: i32) -> i32
     requires may { MayTouch touching.old cell }
-    requires first { slice_get touching.old.notes.marks cell ≡ Some Mark.Untouched }
+    requires first { slice_get touching.old.notes.marks cell ≡ Some CellMark.Untouched }
     ensures { HasRead hint_ways touching.old cell result touching.new }
 {
     touching.cells.set(cell as usize, value);

@@ -1,10 +1,10 @@
 //! Whether a draft may be committed, and why it may not.
 ghost use Rattle.std.specs.Prelude.{◌≡◌, ◌<◌, ◌↔◌, IfNone, IfOk, IfSome, IsTrue, MatchOption, Some, length, slice_get};
 ghost use Rattle.std.specs.List.{All};
-ghost use Rattle.twe_machine.specs.Runs.{IsReached};
+ghost use Rattle.machine_state.specs.Runs.{IsReached};
 ghost use Rattle.seg_journal.specs.declared.moves.Kind.TheVariants.{Admit};
-ghost use Rattle.twe_machine.specs.declared.legal.Why.TheVariants.{HeldBy};
-ghost use Rattle.twe_machine.specs.Legal.{Forbids, IsBar};
+ghost use Rattle.machine_state.specs.declared.why.Why.TheVariants.{HeldBy};
+ghost use Rattle.machine_state.specs.Legal.{Forbids, IsBar};
 ghost use Rattle.twe_machine.specs.Listings.{IsListing};
 ghost use Rattle.twe_base.specs.Limits.{Bounds};
 ghost use Rattle.opt_engine.specs.Drafts.{IsDraftedOf, IsNext, StandsIn};
@@ -13,12 +13,14 @@ ghost use Rattle.opt_engine.specs.inner.Judging.{Finds, HasChanged, IsChange};
 
 use crate::drafts::Drafted;
 use crate::frames::same_frame;
-use crate::readiness::{is_made, is_ready, ready_copy};
+use crate::readiness::{is_ready, ready_copy};
 use crate::touch::CellValue;
+use flat_sched::is_made;
+use machine_state::{State, Why};
 use seg_journal::{Kind, Move};
 use std::alloc::Global;
 use twe_base::{Ints, Memory};
-use twe_machine::{EnabledTasks, State, Why};
+use twe_machine::EnabledTasks;
 use twe_program::Prog;
 
 /// A cell that has another value than the one that was read.

@@ -1,20 +1,22 @@
 //! The cells of a run, each write of which goes to the hints too.
 ghost use Rattle.std.specs.Prelude.{◌≡◌, length, IfOk};
 ghost use Rattle.twe_program.specs.Program.{cell_count};
-ghost use Rattle.seg_exec.specs.Plain.{ListFollows, ListMay, list_knows};
-ghost use Rattle.seg_exec.specs.Segment.{IsSegment};
-ghost use Rattle.twe_machine.specs.Legal.{MayRun};
-ghost use Rattle.twe_machine.specs.Moves.{move_result};
-ghost use Rattle.twe_machine.specs.Runs.{IsReached};
+ghost use Rattle.seg_meaning.specs.Plain.{ListFollows, ListMay, list_knows};
+ghost use Rattle.seg_meaning.specs.Segment.{IsSegment};
+ghost use Rattle.machine_state.specs.Legal.{MayRun};
+ghost use Rattle.machine_state.specs.Moves.{move_result};
+ghost use Rattle.machine_state.specs.Runs.{IsReached};
 
 use crate::hints::Hints;
-use seg_exec::{Cells, Frame, Stop, run_segment};
+use machine_state::State;
+use seg_exec::run_segment;
 use seg_journal::{End, Kind};
+use seg_meaning::{Cells, Frame, Stop};
 use std::alloc::Global;
 use std::marker::Model;
 use std::mem;
 use twe_base::{Ints, Limits, Memory};
-use twe_machine::{State, settle, take_ready};
+use twe_machine::{settle, take_ready};
 use twe_program::Prog;
 
 /// The values of the cells, beside the hints of them. Clauses see the values.
@@ -70,8 +72,8 @@ impl<'a> Mirrored<'a> {
 }
 
 /// Runs the next segment of a task that may run in a reached state of the program under these limits, and returns the end of
-/// the move. What the segment writes goes to the hints too. After `Memory` nothing is known of the state, which can only be
-/// dropped.
+/// the move. By its code what the segment writes is stored to the hints too. After `Memory` nothing is known of the state, which
+/// can only be dropped.
 pub(crate) fn run_mirrored(
     alloc: Global,
     p: &Prog,

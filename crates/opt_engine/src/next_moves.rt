@@ -3,22 +3,24 @@ ghost use Rattle.std.specs.Prelude.{◌≡◌, ◌↔◌, IfOk, IsTrue, Some};
 ghost use mathlib.Core.List.{IsPrefix};
 ghost use Rattle.twe_machine.specs.Listings.{IsListing};
 ghost use Rattle.twe_base.specs.Limits.{Bounds};
-ghost use Rattle.twe_machine.specs.Runs.{IsReached, IsRun};
+ghost use Rattle.machine_state.specs.Runs.{IsReached, IsRun};
 ghost use Rattle.opt_engine.specs.NextMoves.{GoesNext, MayTakeNext, TakesNext};
 ghost use Rattle.opt_engine.specs.Verdicts.{IsFree};
 
 use crate::committing::admit_if_made;
 use crate::core_run::CoreRun;
 use crate::hints::Hints;
-use crate::readiness::{is_made, is_ready};
+use crate::readiness::is_ready;
+use flat_sched::is_made;
+use machine_state::State;
 use seg_journal::{Kind, Move};
 use std::alloc::Global;
 use twe_base::{Limits, Memory};
-use twe_machine::{EnabledTasks, State};
+use twe_machine::EnabledTasks;
 use twe_program::Prog;
 
 /// Takes the moves of a task's next segment, if they are legal. Returns the number of the last entry, or `None` if they are not.
-/// Then the run is as before. The enabled tasks are those of the run. The words of the hints have what was written.
+/// Then the run is as before. The enabled tasks are those of the run. By its code it stores what was written to the hints.
 #[tactic(auto, using(crate::proofs::NextMoves::next_begins, crate::proofs::Told::begins_itself, crate::proofs::Told::reached_of))]
 pub(crate) fn go_next(
     alloc: Global,

@@ -8,7 +8,7 @@ use twe_base::{List, Memory};
 
 /// What was done to a cell so far.
 #[derive(Clone, Copy, Debug, PartialEq, Eq)]
-pub(crate) enum Mark {
+pub(crate) enum CellMark {
     /// It was neither read nor written.
     Untouched,
     /// It was read and not written.
@@ -19,22 +19,22 @@ pub(crate) enum Mark {
 
 /// Notes of what was done to the cells.
 #[derive(Debug, Drop)]
-pub(crate) struct Notes {
+pub(crate) struct CellNotes {
     /// A mark for each cell.
-    pub marks: List<Mark>,
+    pub marks: List<CellMark>,
     /// The cells that were read before they were written, with the values read, in the order of first reading.
     pub reads: Touched,
     /// The cells that were written, in the order of first writing.
     pub written: List<u32>,
 }
 
-impl Notes {
+impl CellNotes {
     /// No notes, of this many cells.
     pub(crate) fn new(alloc: Global, cells: usize) -> Result<Self, Memory>
         ensures { IfOk result (λ notes. notes ≡ no_notes cells) }
     {
-        Ok(Notes {
-            marks: List::from(vec![in alloc; Mark::Untouched; cells]?),
+        Ok(CellNotes {
+            marks: List::from(vec![in alloc; CellMark::Untouched; cells]?),
             reads: List::new(alloc),
             written: List::new(alloc),
         })
@@ -49,12 +49,12 @@ impl Notes {
     {
         let at = cell as usize;
         match self.marks.as_slice()[at] {
-            Mark::Untouched => {
-                self.marks.set(at, Mark::Read);
+            CellMark::Untouched => {
+                self.marks.set(at, CellMark::Read);
                 self.reads.push(CellValue { cell, value })
             }
-            Mark::Read => Ok(()),
-            Mark::Written => Ok(()),
+            CellMark::Read => Ok(()),
+            CellMark::Written => Ok(()),
         }
     }
 
@@ -67,9 +67,9 @@ impl Notes {
     {
         let at = cell as usize;
         match self.marks.as_slice()[at] {
-            Mark::Written => Ok(()),
-            Mark::Untouched => self.first_write(cell),
-            Mark::Read => self.first_write(cell),
+            CellMark::Written => Ok(()),
+            CellMark::Untouched => self.first_write(cell),
+            CellMark::Read => self.first_write(cell),
         }
     }
 
@@ -80,7 +80,7 @@ impl Notes {
         ensures marked { self.new.marks ≡ (first_write_noted cell self.old).marks }
         ensures marks { length self.new.marks ≡ length self.old.marks }
     {
-        self.marks.set(cell as usize, Mark::Written);
+        self.marks.set(cell as usize, CellMark::Written);
         self.written.push(cell)
     }
 }

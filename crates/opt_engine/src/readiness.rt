@@ -1,9 +1,9 @@
 //! Which tasks are ready, and the frames that their next segments begin with.
 ghost use Rattle.std.specs.Prelude.{◌≡◌, ◌↔◌, IfOk, IsTrue, length};
-ghost use Rattle.twe_machine.specs.declared.state.TaskStatus.TheVariants.{Made};
-ghost use Rattle.twe_machine.specs.Moves.{ready_frame};
-ghost use Rattle.twe_machine.specs.Rows.{HasStatus};
-ghost use Rattle.twe_machine.specs.Runs.{IsReached};
+ghost use Rattle.machine_state.specs.declared.state.TaskStatus.TheVariants.{Made};
+ghost use Rattle.machine_state.specs.Moves.{ready_frame};
+ghost use Rattle.machine_state.specs.Rows.{HasStatus};
+ghost use Rattle.machine_state.specs.Runs.{IsReached};
 ghost use Rattle.twe_base.specs.Limits.{Bounds};
 ghost use Rattle.opt_engine.specs.Drafts.{DraftIsReady, unreserved};
 ghost use Rattle.opt_engine.specs.Verdicts.{IsDraftAt, IsStartAt};
@@ -11,10 +11,11 @@ ghost use Rattle.opt_engine.specs.Verdicts.{IsDraftAt, IsStartAt};
 use crate::drafts::Draft;
 use crate::frames::copy_frame;
 use crate::starts::Start;
-use seg_exec::Frame;
+use machine_state::{State, TaskRow, TaskStatus};
+use seg_meaning::Frame;
 use std::alloc::Global;
 use twe_base::{List, Memory};
-use twe_machine::{State, TaskRow, TaskStatus, awaited, awaited_value};
+use twe_machine::{awaited, awaited_value};
 use twe_program::Prog;
 
 /// Whether a task is ready: whether it waits for its admission, or is enabled and waits for nobody.
@@ -30,16 +31,6 @@ pub(crate) fn is_ready(st: &State, t: u32) -> bool
             TaskStatus::Done => false,
             TaskStatus::Faulted => false,
         },
-    }
-}
-
-/// Whether a task waits for its admission.
-pub(crate) fn is_made(st: &State, t: u32) -> bool
-    ensures { IsTrue result ↔ HasStatus st.now t Made }
-{
-    match st.tasks.get(t as usize) {
-        None => false,
-        Some(row) => matches!(row.status, TaskStatus::Made),
     }
 }
 

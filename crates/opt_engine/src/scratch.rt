@@ -3,30 +3,30 @@ ghost use Rattle.std.specs.Prelude.{◌≡◌, ◌<◌, length, replicate, IfOk}
 ghost use Rattle.std.specs.List.{All};
 ghost use Rattle.twe_base.specs.Limits.{Bounds};
 ghost use Rattle.twe_program.specs.Program.{cell_count};
-ghost use Rattle.twe_machine.specs.Runs.{IsReached};
-ghost use Rattle.opt_engine.specs.declared.notes.Mark.TheVariants.{Untouched};
+ghost use Rattle.machine_state.specs.Runs.{IsReached};
+ghost use Rattle.opt_engine.specs.declared.notes.CellMark.TheVariants.{Untouched};
 ghost use Rattle.opt_engine.specs.inner.Hinting.{without_marks};
 ghost use Rattle.opt_engine.specs.inner.Noting.{fresh};
 
-use crate::notes::{Mark, Notes};
+use crate::notes::{CellMark, CellNotes};
 use crate::touch::CellValue;
 use crate::touching::Touching;
+use machine_state::State;
 use std::alloc::Global;
 use std::marker::Model;
 use twe_base::{Ints, List, Memory};
-use twe_machine::State;
 use twe_program::Prog;
 
 /// A value and a mark for each of so many cells, none of which is marked between two drafts. Clauses see the number of cells.
 #[derive(Debug, Drop)]
 pub struct Scratch {
     values: Ints,
-    marks: List<Mark>,
+    marks: List<CellMark>,
 }
 
 impl Model for Scratch {
     ghost use Rattle.std.specs.Prelude.{◌≡◌, ℕ, length, replicate};
-    ghost use Rattle.opt_engine.specs.declared.notes.Mark.TheVariants.{Untouched};
+    ghost use Rattle.opt_engine.specs.declared.notes.CellMark.TheVariants.{Untouched};
 
     ghost Value = { ℕ };
 
@@ -42,7 +42,7 @@ impl Scratch {
     {
         Ok(Scratch {
             values: List::from(vec![in alloc; 0; cells]?),
-            marks: List::from(vec![in alloc; Mark::Untouched; cells]?),
+            marks: List::from(vec![in alloc; CellMark::Untouched; cells]?),
         })
     }
 
@@ -54,7 +54,7 @@ impl Scratch {
         let Scratch { values, marks } = self;
         Touching {
             cells: values,
-            notes: Notes {
+            notes: CellNotes {
                 marks,
                 reads: List::new(alloc),
                 written: List::new(alloc),
@@ -66,7 +66,7 @@ impl Scratch {
     /// The same room once more, after a draft that has marked the cells that it read and wrote.
     pub(crate) fn again(
         values: Ints,
-        mut marks: List<Mark>,
+        mut marks: List<CellMark>,
         reads: &[CellValue],
         writes: &[CellValue],
     ) -> Self
@@ -82,13 +82,13 @@ impl Scratch {
 }
 
 /// Takes the marks of these cells away.
-fn unmark(marks: &mut List<Mark>, cells: &[CellValue])
+fn unmark(marks: &mut List<CellMark>, cells: &[CellValue])
     requires { All (λ c. c.cell < length marks.old) cells.now }
     ensures unmarked { marks.new ≡ without_marks marks.old cells.now }
     ensures long { length marks.new ≡ length marks.old }
 {
     for at in cells {
-        marks.set(at.cell as usize, Mark::Untouched);
+        marks.set(at.cell as usize, CellMark::Untouched);
     }
 }
 

@@ -9,9 +9,10 @@ use crate::hinted::Hinted;
 use crate::hints::Hints;
 use crate::scratch::Scratch;
 use crate::touching::Noted;
-use run_gates::Gate;
-use seg_exec::{Frame, run_segment};
+use seg_exec::run_segment;
+use seg_meaning::Frame;
 use std::alloc::Global;
+use steal_pool::gates::Gate;
 use twe_base::Memory;
 use twe_program::Prog;
 

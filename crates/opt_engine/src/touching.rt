@@ -2,21 +2,21 @@
 ghost use Rattle.std.specs.Prelude.{◌≡◌, map, IfOk, None};
 ghost use Rattle.opt_engine.specs.inner.Noting.{MayTouch, TouchFollows, fresh, touch_knows, value_at};
 
-use crate::notes::{Mark, Notes};
+use crate::notes::{CellMark, CellNotes};
 use crate::touch::{CellValue, Touched};
-use seg_exec::Cells;
+use seg_meaning::Cells;
 use std::alloc::Global;
 use twe_base::{Ints, List, Memory};
 
-/// The values of the cells, with notes of what was read and written. A note that finds no memory is missing, and so is
-/// each later one.
+/// The values of the cells, with notes of what was read and written. A note that finds no memory is missing. Then `missing`
+/// says why, from then on, and later notes may be missing too.
 #[derive(Debug, Drop)]
 pub(crate) struct Touching {
     /// The values.
     pub cells: Ints,
     /// The notes.
-    pub notes: Notes,
-    /// Why a note is missing, if one is.
+    pub notes: CellNotes,
+    /// Why the first missing note is missing, if one is.
     pub missing: Option<Memory>,
 }
 
@@ -26,7 +26,7 @@ pub(crate) struct Noted {
     /// The values.
     pub cells: Ints,
     /// A mark for each cell.
-    pub marks: List<Mark>,
+    pub marks: List<CellMark>,
     /// What was read before it was written.
     pub reads: Touched,
     /// What was written, with the values that the cells have now.
@@ -38,7 +38,7 @@ impl Touching {
     pub(crate) fn new(alloc: Global, cells: Ints) -> Result<Self, Memory>
         ensures { IfOk result (λ touching. touching ≡ fresh cells) }
     {
-        let notes = Notes::new(alloc, cells.len())?;
+        let notes = CellNotes::new(alloc, cells.len())?;
         Ok(Touching {
             cells,
             notes,
@@ -62,7 +62,7 @@ impl Touching {
         if let Some(memory) = missing {
             return Err(memory);
         }
-        let Notes {
+        let CellNotes {
             marks,
             reads,
             written,

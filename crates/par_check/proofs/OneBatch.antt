@@ -1,5 +1,5 @@
 -- A batch has one text.
-use Rattle.std.proofs.Common.{◌≡◌, ℕ, List, [], ◌∷◌, refl, sym, ap, ◌∙◌}
+use Rattle.std.proofs.Common.{◌≡◌, ◌≤◌, ℕ, List, [], ◌∷◌, refl, sym, ap, arith, ◌∙◌}
 use Rattle.std.specs.List.{AllZip}
 use Rattle.command_line.specs.declared.command.Command.{Command}
 use Rattle.twe_io.specs.declared.answer.Answer.{Answer}
@@ -26,6 +26,6 @@ pub one-text : (job : Job) → HasOne (command_of job) → (batch one other : Li
 one-text job has batch one other h k =
     h.2 ∙ ap (batch_text 1) (same-answers (command_of job) has (programs_of batch) h.0 k.0 h.1 k.1) ∙ sym k.2
 
-pub no-workers : (job : Job) → workers_of (command_of job) ≡ 0
-no-workers Check = refl
-no-workers Run = refl
+pub no-workers : (job : Job) → workers_of (command_of job) ≤ 1
+no-workers Check = omega arith
+no-workers Run = omega arith

@@ -22,7 +22,7 @@ use Rattle.effect_check.specs.declared.rule.ERule.TheVariants.{E1, E2, E3, E4, E
 use Rattle.effect_check.specs.FailsEffect.{FailsEffect, effect_rule_number}
 use Rattle.refusal_causes.specs.declared.found.CausedFailure.{CausedFailure}
 use Rattle.refusal_causes.specs.declared.found.FailureKey.{FailureKey}
-use Rattle.refusal_causes.specs.declared.found.Found.{Found}
+use Rattle.refusal_causes.specs.declared.found.FoundFailures.{FoundFailures}
 use Rattle.refusal_causes.specs.Listing.{AreAllCauses, StandInOrder, StandsBefore, HasFailure, IsCausedFailure}
 use Rattle.refusal_causes.specs.inner.Found.{Grows, IsEntry, IsSound, IsUnlisted, found_at, key_cmp, key_of}
 
@@ -39,11 +39,11 @@ exact_keys a b h =
     (exact_pairs nat_cmp nat_cmp exact_unsigned exact_unsigned) (a.line, (a.col, a.number)) (b.line, (b.col, b.number)) h)
 
 -- nothing changes
-pub grows_not : (p : Program) (found : Found) → Grows p found found
+pub grows_not : (p : Program) (found : FoundFailures) → Grows p found found
 grows_not p found = record { keeps = λ rule place none. none; sound = λ sound. sound }
 
 -- one change after another
-pub grows_then : (p : Program) (a b c : Found) → Grows p a b → Grows p b c → Grows p a c
+pub grows_then : (p : Program) (a b c : FoundFailures) → Grows p a b → Grows p b c → Grows p a c
 grows_then p a b c first second = record {
   keeps = λ rule place none. first.keeps rule place (second.keeps rule place none);
   sound = λ sound. second.sound (first.sound sound);
@@ -55,7 +55,7 @@ is_listed (Some failure) is none = none-some failure (sym none)
 is_listed None is none = false≢true is
 
 -- the empty map
-pub empty_sound : (p : Program) (found : Found) → found.entries.entries ≡ [] → tree.IsOrdered key_cmp found.entries → IsSound p found
+pub empty_sound : (p : Program) (found : FoundFailures) → found.entries.entries ≡ [] → tree.IsOrdered key_cmp found.entries → IsSound p found
 empty_sound p found empty ordered = record {
   entries = subst (λ (es : List (FailureKey × CausedFailure)). All (IsEntry p) es) (sym empty) (All-nil (IsEntry p));
   ordered = ordered;
@@ -65,7 +65,7 @@ none_before : {X : Type 0} (b : Bool) (x : X) (old : Option X) → cond b (Some 
 none_before true x old none = absurd (none-some x (sym none))
 none_before false x old none = none
 
-module _ (p : Program) (before after : Found) (failure : CausedFailure)
+module _ (p : Program) (before after : FoundFailures) (failure : CausedFailure)
     (updates : tree.Updates key_cmp before.entries after.entries (key_of failure.rule failure.place) (Some failure)) where
   -- it is there
   pub is_noted : ¬ IsUnlisted after failure.rule failure.place
@@ -184,7 +184,7 @@ module _ (p : Program) where
     sorted es (All-tail (IsEntry p) e es all) ordered.1,
   )
 
-  module _ (found : Found) (sound : IsSound p found) where
+  module _ (found : FoundFailures) (sound : IsSound p found) where
     -- an entry at the key of a rule and a place is their failure
     has_entry : (rule : ERule) (place : Place) (failure : CausedFailure) → Contains found.entries.entries (key_of rule place, failure)
         → HasFailure (values_of found.entries.entries) rule place

@@ -20,7 +20,7 @@ use Rattle.effect_check.specs.declared.rule.ERule.TheVariants.{E1, E2, E3, E4, E
 use Rattle.effect_check.specs.Acts.{acts_in_all}
 use Rattle.effect_check.specs.Covered.{CoveredAt, Does}
 use Rattle.effect_check.specs.FailsEffect as rules
-use Rattle.refusal_causes.specs.declared.found.Found.{Found}
+use Rattle.refusal_causes.specs.declared.found.FoundFailures.{FoundFailures}
 use Rattle.refusal_causes.specs.Seeking.{decls_for, is_at, is_of_methods, is_of_needs, needs_at, needs_of}
 use Rattle.refusal_causes.specs.inner.Found.{Grows, IsUnlisted}
 use Rattle.refusal_causes.specs.inner.Keeping.{BarsNone, IsDeclared, IsDeclaredFor, IsDone, IsFollowed, IsKept, IsNoBar, JoinsSurely, KeepsOrder, KeepsThere, SpawnsAlike, SpawnsAnew, need_at}
@@ -86,7 +86,7 @@ kept_if p E8 place decl act of all = λ is.
     (all (there_at true act.kind E8 place is))
 
 -- ---- what is noted in turn
-module _ (p : Program) (task : Decl) (a b c : Found) (first : Grows p a b) (second : Grows p b c) where
+module _ (p : Program) (task : Decl) (a b c : FoundFailures) (first : Grows p a b) (second : Grows p b c) where
   -- apart from futures
   pub alone_by : (kind : ActKind) → ((rule : ERule) (place : Place) → IsUnlisted a rule place → IsDeclaredFor false rule place task kind)
       → ((place : Place) → IsUnlisted b E6 place → KeepsOrder task place kind)
@@ -264,7 +264,7 @@ module _ (p : Program) (task : Decl) (fits : DeclFits p task) (count : ℕ) (eno
 
 -- ---- all declarations
 -- what holds of tasks and of methods holds of the declarations that a rule is for
-pub all_keep : (p : Program) (a b : Found) → Grows p a b
+pub all_keep : (p : Program) (a b : FoundFailures) → Grows p a b
     → ((rule : ERule) (place : Place) → is_of_methods rule ≡ false → IsUnlisted a rule place → All (KeepsThere p rule place) p.tasks)
     → ((place : Place) → IsUnlisted b E8 place → All (KeepsThere p E8 place) p.methods)
     → (rule : ERule) (place : Place) → IsUnlisted b rule place → All (KeepsThere p rule place) (decls_for p rule)

@@ -11,8 +11,8 @@ use Rattle.refusal_causes.specs.declared.places.Four.{Four}
 use Rattle.refusal_causes.specs.declared.places.KeptPlaces.{KeptPlaces}
 use Rattle.refusal_causes.specs.declared.way.Begins.{Begins}
 use Rattle.refusal_causes.specs.declared.way.Begins.TheVariants.{Spawn, Join}
-use Rattle.refusal_causes.specs.declared.way.Way.{Way}
-use Rattle.refusal_causes.specs.Places.{first_four, kept}
+use Rattle.refusal_causes.specs.declared.way.ControlWay.{ControlWay}
+use Rattle.refusal_causes.specs.Places.{first_four, kept, max_counted}
 use Rattle.refusal_causes.specs.Ways.{shown_at, begins_of, places_since, way_along}
 use Rattle.refusal_causes.specs.inner.KeptPlaces.{with_next, one_more, kept_with}
 use Rattle.refusal_causes.specs.inner.Traced.{with_place, carried}
@@ -24,7 +24,7 @@ first_four-next (a ∷ b ∷ []) place = refl
 first_four-next (a ∷ b ∷ c ∷ []) place = refl
 first_four-next (a ∷ b ∷ c ∷ d ∷ more) place = refl
 
-one_more-min : (n : ℕ) → one_more (min n 9) ≡ min (suc n) 9
+one_more-min : (n : ℕ) → one_more (min n max_counted) ≡ min (suc n) max_counted
 one_more-min n = grind (arith, nat_tests)
 
 abbrev places : Four → Four → ℕ → KeptPlaces
@@ -33,14 +33,14 @@ places first last count = record { first = first; last = last; count = count }
 kept-more : (place : Place) (xs : List Place) → kept_with place (kept xs) ≡ kept (place ∷ xs)
 kept-more place xs =
     ap (λ n. places (with_next place (first_four (reverse xs))) (first_four (place ∷ xs)) n) (one_more-min (length xs))
-    ∙ ap (λ four. places four (first_four (place ∷ xs)) (min (suc (length xs)) 9))
+    ∙ ap (λ four. places four (first_four (place ∷ xs)) (min (suc (length xs)) max_counted))
     (first_four-next (reverse xs) place ∙ ap first_four (sym (reverse-cons place xs)))
 
 with_place-kept : (place : Option Place) (xs : List Place) → with_place place (kept xs) ≡ kept (option_to_list place ++ xs)
 with_place-kept None xs = refl
 with_place-kept (Some place) xs = kept-more place xs
 
-abbrev way : Begins → KeptPlaces → Way
+abbrev way : Begins → KeptPlaces → ControlWay
 way begins places = record { begins = begins; places = places }
 
 -- by whether the statement spawns into the future, or joins it

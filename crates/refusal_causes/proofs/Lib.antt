@@ -6,6 +6,9 @@ pub mod TracedFacts
 -- The same of the ways to a point.
 pub mod ReachedLaws
 pub mod ReachedFacts
+-- None has more places than another trail to the point, after which the future is the same.
+pub mod Settled
+pub mod Fewest
 -- Both together, for a body.
 pub mod Whole
 -- A trail without its tests is a control path.

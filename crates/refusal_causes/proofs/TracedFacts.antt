@@ -7,39 +7,39 @@ use Rattle.cover_flow.specs.Out.{puts_out, takes_in}
 use Rattle.cover_flow.specs.inner.After as flow
 use Rattle.cover_flow.specs.inner.After.{joined, put_out, taken_in, after_simple, after_all, after_one}
 use Rattle.cover_flow.proofs.WordLaws.{fact, halves, joined-assoc}
-use Rattle.refusal_causes.specs.declared.way.Way.{Way}
-use Rattle.refusal_causes.specs.declared.ways.Ways.{Ways}
+use Rattle.refusal_causes.specs.declared.way.ControlWay.{ControlWay}
+use Rattle.refusal_causes.specs.declared.ways.OutWays.{OutWays}
 use Rattle.refusal_causes.specs.inner.Traced.{nowhere, shorter, either, carried, stepped, traced, traced_all, traced_one}
 
 -- whether there is a way on which the future is out, and one on which it is not
-abbrev pub seen : Ways → Fact
+abbrev pub seen : OutWays → Fact
 seen ways = record { out = is_some ways.out; not_out = is_some ways.not_out }
 
-shorter_some : (less : Bool) (x y : Way) → is_some (if less then Some y else Some x) ≡ true
+shorter_some : (less : Bool) (x y : ControlWay) → is_some (if less then Some y else Some x) ≡ true
 shorter_some true x y = refl
 shorter_some false x y = refl
 
-or-some : (a b : Option Way) → is_some (shorter a b) ≡ (is_some a || is_some b)
+or-some : (a b : Option ControlWay) → is_some (shorter a b) ≡ (is_some a || is_some b)
 or-some None b = refl
 or-some (Some x) None = refl
 or-some (Some x) (Some y) = shorter_some (nat_lt y.places.count x.places.count) x y
 
-map-some : (g : Way → Way) (o : Option Way) → is_some (option_map g o) ≡ is_some o
+map-some : (g : ControlWay → ControlWay) (o : Option ControlWay) → is_some (option_map g o) ≡ is_some o
 map-some g None = refl
 map-some g (Some x) = refl
 
-pub either-seen : (a b : Ways) → seen (either a b) ≡ joined (seen a) (seen b)
+pub either-seen : (a b : OutWays) → seen (either a b) ≡ joined (seen a) (seen b)
 either-seen a b =
     halves (is_some (shorter a.out b.out)) (is_some a.out || is_some b.out)
     (is_some (shorter a.not_out b.not_out)) (is_some a.not_out || is_some b.not_out) (or-some a.out b.out) (or-some a.not_out b.not_out)
 
-both-some : (g : Way → Way) (ways : Ways) → is_some (shorter (option_map g ways.out) (option_map g ways.not_out)) ≡ (is_some ways.out || is_some ways.not_out)
+both-some : (g : ControlWay → ControlWay) (ways : OutWays) → is_some (shorter (option_map g ways.out) (option_map g ways.not_out)) ≡ (is_some ways.out || is_some ways.not_out)
 both-some g ways =
     or-some (option_map g ways.out) (option_map g ways.not_out)
     ∙ ap (λ b. b || is_some (option_map g ways.not_out)) (map-some g ways.out)
     ∙ ap (λ b. is_some ways.out || b) (map-some g ways.not_out)
 
-stepped_by : (g : Way → Way) (puts takes : Bool) (ways : Ways)
+stepped_by : (g : ControlWay → ControlWay) (puts takes : Bool) (ways : OutWays)
     → seen (if puts then record { out = shorter (option_map g ways.out) (option_map g ways.not_out); not_out = None }
     else (if takes then record { out = None; not_out = shorter (option_map g ways.out) (option_map g ways.not_out) }
     else record { out = option_map g ways.out; not_out = option_map g ways.not_out }))
@@ -50,11 +50,11 @@ stepped_by g false false ways =
     halves (is_some (option_map g ways.out)) (is_some ways.out) (is_some (option_map g ways.not_out)) (is_some ways.not_out)
     (map-some g ways.out) (map-some g ways.not_out)
 
-pub stepped-seen : (f : ℕ) (s : Statement) (ways : Ways) → seen (stepped f s ways) ≡ after_simple f s (seen ways)
+pub stepped-seen : (f : ℕ) (s : Statement) (ways : OutWays) → seen (stepped f s ways) ≡ after_simple f s (seen ways)
 stepped-seen f s ways = stepped_by (carried f s) (puts_out f s) (takes_in f s) ways
 
 mutual
-  pub traced-seen : (f : ℕ) (s : Statement) (ways : Ways) → seen (traced f s ways) ≡ flow.after f s (seen ways)
+  pub traced-seen : (f : ℕ) (s : Statement) (ways : OutWays) → seen (traced f s ways) ≡ flow.after f s (seen ways)
   traced-seen f (Block point body) ways = traced_all-seen f body ways
   traced-seen f (If point arms) ways = traced_one-seen f nowhere arms ways
   traced-seen f (While point condition body place) ways =
@@ -64,12 +64,12 @@ mutual
   traced-seen f (Return point value) ways = refl
   traced-seen f s ways = stepped-seen f s ways
 
-  pub traced_all-seen : (f : ℕ) (body : Statements) (ways : Ways) → seen (traced_all f body ways) ≡ after_all f body (seen ways)
+  pub traced_all-seen : (f : ℕ) (body : Statements) (ways : OutWays) → seen (traced_all f body ways) ≡ after_all f body (seen ways)
   traced_all-seen f no_more ways = refl
   traced_all-seen f (statement first others) ways =
       traced_all-seen f others (traced f first ways) ∙ ap (after_all f others) (traced-seen f first ways)
 
-  pub traced_one-seen : (f : ℕ) (before : Ways) (arms : Arms) (ways : Ways)
+  pub traced_one-seen : (f : ℕ) (before : OutWays) (arms : Arms) (ways : OutWays)
       → seen (traced_one f before arms ways) ≡ joined (seen before) (after_one f arms (seen ways))
   traced_one-seen f before (arm condition body others) ways =
       let here = traced_all f body ways in

@@ -9,7 +9,7 @@ use Rattle.twe_program.specs.declared.program.Body.{Body}
 use Rattle.twe_program.specs.declared.program.Decl.{Decl}
 use Rattle.twe_program.specs.Program.{Program}
 use Rattle.cover_flow.specs.Out.{MayBeOut, SurelyOut}
-use Rattle.refusal_causes.specs.declared.way.Way.{Way}
+use Rattle.refusal_causes.specs.declared.way.ControlWay.{ControlWay}
 use Rattle.refusal_causes.specs.Ways.{IsWay}
 use Rattle.effect_check.specs.declared.act.ActKind.{ActKind}
 use Rattle.effect_check.specs.declared.act.ActKind.TheVariants.{Touch, Call, Make, Wait}
@@ -36,13 +36,13 @@ pub record IsUndeclared (p : Program) (decl : Decl) (place : Place) (need : Effe
   pub outside : ¬ IsTrue (covers decl.summary need)
 
 -- a way is there exactly if ways are wanted; then it is one of the body to the point on which the future is out, or is not
-abbrev pub IsWayIf : Bool → Body → ℕ → ℕ → Bool → Option Way → Type 0
+abbrev pub IsWayIf : Bool → Body → ℕ → ℕ → Bool → Option ControlWay → Type 0
 IsWayIf ways body point future out way = (is_some way ≡ ways) × IfSome way (IsWay body point future out)
 
 -- the task spawns into the future at this place, the future may be out at the point, and the spawned task has this effect,
 -- which interferes with the one that is needed
 pub record IsBarred (p : Program) (ways : Bool) (task : Decl) (point : ℕ) (need other : Effect) (future_place : Place)
-    (way : Option Way) : Type 0 where
+    (way : Option ControlWay) : Type 0 where
   pub at : ℕ
   pub future : ℕ
   pub deterministic : Bool
@@ -56,7 +56,7 @@ pub record IsBarred (p : Program) (ways : Bool) (task : Decl) (point : ℕ) (nee
 
 -- the task needs the effect at this place, where it is barred
 pub record IsOut (p : Program) (ways : Bool) (task : Decl) (place : Place) (need other : Effect) (future_place : Place)
-    (way : Option Way) : Type 0 where
+    (way : Option ControlWay) : Type 0 where
   pub point : ℕ
   pub needs : NeedsAt p task point place need
   pub barred : IsBarred p ways task point need other future_place way
@@ -76,7 +76,7 @@ IsMadeNowhere p task future = (future_place : Place) → ¬ IsMadeAt p task futu
 
 -- the task joins a future at this place that is not out on some control path to it; a place is named where the future's task is
 -- made, and none exactly if it is made nowhere
-pub record IsNotOut (p : Program) (ways : Bool) (task : Decl) (place : Place) (future_place : Option Place) (way : Option Way)
+pub record IsNotOut (p : Program) (ways : Bool) (task : Decl) (place : Place) (future_place : Option Place) (way : Option ControlWay)
     : Type 0 where
   pub point : ℕ
   pub future : ℕ
@@ -89,7 +89,7 @@ pub record IsNotOut (p : Program) (ways : Bool) (task : Decl) (place : Place) (f
   pub unmade : IfNone future_place (IsMadeNowhere p task future)
 
 -- the task spawns into a future at this place that may be out already
-pub record IsOutAgain (p : Program) (ways : Bool) (task : Decl) (place : Place) (way : Option Way) : Type 0 where
+pub record IsOutAgain (p : Program) (ways : Bool) (task : Decl) (place : Place) (way : Option ControlWay) : Type 0 where
   pub point : ℕ
   pub future : ℕ
   pub deterministic : Bool

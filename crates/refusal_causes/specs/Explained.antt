@@ -2,8 +2,8 @@
 use Rattle.std.specs.Prelude.{◌≡◌, ℕ, Bool, true, false, List}
 use Rattle.twe_base.specs.declared.place.Place.{Place}
 use Rattle.twe_ast.specs.declared.item.Ast.{Ast}
-use Rattle.name_needs.specs.declared.need.NameNeed.{NameNeed}
-use Rattle.name_needs.specs.Causes.{IsNameCause}
+use Rattle.name_causes.specs.declared.need.NameNeed.{NameNeed}
+use Rattle.name_causes.specs.Causes.{IsNameCause}
 use Rattle.twe_program.specs.Program.{Program}
 use Rattle.twe_names.specs.Meaning.{program_of}
 use Rattle.twe_parser.specs.declared.fail.SRule.TheVariants.{S1, S2, S3, S4, S5, S6}

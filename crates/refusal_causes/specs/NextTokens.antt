@@ -71,9 +71,11 @@ IsNowhere text place = (count : ℕ) → count ≤ length text → ¬ (place_aft
 abbrev pub max_tried : ℕ
 max_tried = 65536
 
--- The tokens that may stand at this place of the text. A beginning of the text that is too long is not tried.
+-- The tokens that may stand at this place of the text. They are looked for if at most as many bytes as are tried come before the
+-- place; with more bytes before it none are given, nor if no byte of the text has the place, nor its end.
 pub data AreNextAt (text : List ℕ) (place : Place) : List NextToken → Type 0 where
   behind : (count : ℕ) (found : List NextToken) → count ≤ length text → place_after (take count text) ≡ place
-      → AreNextAmong (take count text) every_token found → AreNextAt text place found
-  too_long : (count : ℕ) → place_after (take count text) ≡ place → max_tried < count → AreNextAt text place []
+      → count ≤ max_tried → AreNextAmong (take count text) every_token found → AreNextAt text place found
+  too_long : (count : ℕ) → count ≤ length text → place_after (take count text) ≡ place
+      → max_tried < count → AreNextAt text place []
   nowhere : IsNowhere text place → AreNextAt text place []

@@ -1,5 +1,5 @@
 -- What a way to a point is, on which a future is out or is not.
-use Rattle.std.specs.Prelude.{◌≡◌, ℕ, Bool, ◌||◌, if◌then◌else◌, List, [], ◌∷◌, ◌++◌, Option, None, Some, option_to_list}
+use Rattle.std.specs.Prelude.{◌≡◌, ◌≤◌, ℕ, min, Bool, ◌||◌, if◌then◌else◌, List, [], ◌∷◌, ◌++◌, length, Option, None, Some, option_to_list}
 use Rattle.twe_base.specs.declared.place.Place.{Place}
 use Rattle.twe_program.specs.declared.program.Body.{Body}
 use Rattle.twe_program.specs.Statement.{Statement, SetCell, SetArray, SetGrid, While, Print, Call, Make, Wait}
@@ -7,8 +7,8 @@ use Rattle.cover_flow.specs.ControlPath.{Path, ControlPath}
 use Rattle.cover_flow.specs.Out.{puts_out, takes_in, out_after}
 use Rattle.refusal_causes.specs.declared.way.Begins.{Begins}
 use Rattle.refusal_causes.specs.declared.way.Begins.TheVariants.{Start, Spawn, Join}
-use Rattle.refusal_causes.specs.declared.way.Way.{Way}
-use Rattle.refusal_causes.specs.Places.{kept}
+use Rattle.refusal_causes.specs.declared.way.ControlWay.{ControlWay}
+use Rattle.refusal_causes.specs.Places.{kept, max_counted}
 use Rattle.refusal_causes.specs.Trail.{ControlTrail}
 
 -- the place at which a statement shows, if it has one; the making of a task shows at the name of the future
@@ -38,15 +38,18 @@ places_since f [] = []
 places_since f (s ∷ earlier) = option_to_list (shown_at s) ++ (if settles f s then [] else places_since f earlier)
 
 -- the way along a trail
-abbrev pub way_along : ℕ → Path → Way
+abbrev pub way_along : ℕ → Path → ControlWay
 way_along f trail = record { begins = begins_of f trail; places = kept (places_since f trail) }
 
--- the way is that along the trail of a control path to the point, after which the future is out, or is not
-pub record IsWay (body : Body) (point f : ℕ) (out : Bool) (way : Way) : Type 0 where
+-- The way is that along the trail of a control path to the point, after which the future is out, or is not. Of all such ways none has
+-- fewer places: so it goes round no loop without need.
+pub record IsWay (body : Body) (point f : ℕ) (out : Bool) (way : ControlWay) : Type 0 where
   pub trail : Path
   pub comes : ControlTrail body point trail
   pub state : out_after f trail ≡ out
   pub shows : way ≡ way_along f trail
+  pub shortest : (other : Path) → ControlTrail body point other → out_after f other ≡ out
+      → min (length (places_since f trail)) max_counted ≤ length (places_since f other)
 
 -- after no control path to the point the future is out, or is not
 abbrev pub IsOnNone : Body → ℕ → ℕ → Bool → Type 0

@@ -12,7 +12,7 @@ ghost use Rattle.refusal_causes.specs.inner.Keeping.{IsDeclaredFor, IsDone, Keep
 ghost use Rattle.refusal_causes.specs.inner.Listed.{KeepsAlone, decls_of, place_of};
 
 use crate::cause::RuleCause;
-use crate::found::Found;
+use crate::found::FoundFailures;
 use crate::needing::{first_undeclared, needs_of};
 use crate::ordering::{cause_of_child, cause_of_order};
 use effect_check::{Act, ActKind, ERule};
@@ -71,7 +71,7 @@ fn place_of(kind: &ActKind) -> Place
 
 /// Notes a failure of this rule, which is for tasks, with a cause that it has.
 pub fn note_of_task(
-    found: &mut Found,
+    found: &mut FoundFailures,
     p: &Prog,
     task: &Decl,
     rule: ERule,
@@ -90,7 +90,7 @@ pub fn note_of_task(
 
 /// Notes that the act fails its rule on needs, if it needs an effect that is not declared.
 pub fn note_undeclared(
-    found: &mut Found,
+    found: &mut FoundFailures,
     alloc: Global,
     p: &Prog,
     decl: &Decl,
@@ -127,7 +127,7 @@ pub fn note_undeclared(
 }
 
 /// Notes that a deterministic task makes a task by `executeLater` here, or waits for one by `getValue`, if it does.
-fn note_order(found: &mut Found, p: &Prog, task: &Decl, act: &Act) -> Result<(), Memory>
+fn note_order(found: &mut FoundFailures, p: &Prog, task: &Decl, act: &Act) -> Result<(), Memory>
     requires inside { Contains p.now.tasks task.now }
     requires done { Does p.now task.now act.now.point act.now.kind }
     ensures grows { OnOk result (Grows p.now found.old found.new) }
@@ -142,7 +142,7 @@ fn note_order(found: &mut Found, p: &Prog, task: &Decl, act: &Act) -> Result<(),
 }
 
 /// Notes that a deterministic task spawns one here that was not declared so, if it does.
-fn note_child(found: &mut Found, p: &Prog, task: &Decl, act: &Act) -> Result<(), Memory>
+fn note_child(found: &mut FoundFailures, p: &Prog, task: &Decl, act: &Act) -> Result<(), Memory>
     requires inside { Contains p.now.tasks task.now }
     requires done { Does p.now task.now act.now.point act.now.kind }
     ensures grows { OnOk result (Grows p.now found.old found.new) }
@@ -158,7 +158,7 @@ fn note_child(found: &mut Found, p: &Prog, task: &Decl, act: &Act) -> Result<(),
 
 /// Notes what the task fails by this act, whatever its futures are.
 fn note_alone(
-    found: &mut Found,
+    found: &mut FoundFailures,
     alloc: Global,
     p: &Prog,
     task: &Decl,
@@ -178,7 +178,7 @@ fn note_alone(
 
 /// Notes what the task fails by these acts of its own, whatever its futures are.
 pub fn note_all_alone(
-    found: &mut Found,
+    found: &mut FoundFailures,
     alloc: Global,
     p: &Prog,
     task: &Decl,

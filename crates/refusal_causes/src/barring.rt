@@ -10,7 +10,7 @@ ghost use Rattle.refusal_causes.specs.Barring.{IsFutureBar, IsPair, IsSpawnBar};
 ghost use Rattle.refusal_causes.specs.inner.Keeping.{AreFreeOf, BarsNone, IsDone, IsFollowed, IsFreeOf, IsNoBar};
 
 use crate::showing::way_if;
-use crate::way::Way;
+use crate::way::ControlWay;
 use cover_flow::{Points, flow};
 use effect_check::{Act, ActKind};
 use effect_sets::{Effect, Summary, interferes};
@@ -37,7 +37,7 @@ pub struct SpawnBar {
     /// The place of the future's name.
     pub future_place: Place,
     /// A way on which the future is out, if ways are wanted.
-    pub way: Option<Way>,
+    pub way: Option<ControlWay>,
 }
 
 /// The first of the other effects that interferes with the effect, if one does.

@@ -1,6 +1,6 @@
 //! The cause of a failure.
 
-use crate::way::Way;
+use crate::way::ControlWay;
 use effect_sets::{Effect, Summary};
 use twe_base::Place;
 
@@ -25,7 +25,7 @@ pub enum RuleCause {
         /// The place of the future's name, where the task is spawned.
         future_place: Place,
         /// A way on which the future is out, if ways are wanted.
-        way: Option<Way>,
+        way: Option<ControlWay>,
         /// The place of the name of the task that needs the effect.
         decl_place: Place,
     },
@@ -34,12 +34,12 @@ pub enum RuleCause {
         /// The place of the future's name, where its task is made. `None` says that it is made nowhere.
         future_place: Option<Place>,
         /// A way on which the future is not out, if ways are wanted.
-        way: Option<Way>,
+        way: Option<ControlWay>,
     },
     /// On some control path to a spawn its future is out already.
     OutAgain {
         /// A way on which the future is out, if ways are wanted.
-        way: Option<Way>,
+        way: Option<ControlWay>,
     },
     /// A deterministic task does something whose order is open.
     OrderOpen {

@@ -44,17 +44,17 @@ fn key_of(rule: ERule, place: Place) -> FailureKey
 
 /// The failures that were found so far, each once.
 #[derive(Debug, Drop)]
-pub struct Found {
+pub struct FoundFailures {
     entries: BTreeMap<FailureKey, CausedFailure>,
 }
 
-impl Found {
+impl FoundFailures {
     /// None were found.
     pub fn new(alloc: Global, p: &Prog) -> Self
         ensures { IsSound p.now result }
     {
         let _ = p;
-        Found {
+        FoundFailures {
             entries: BTreeMap::new(alloc),
         }
     }

@@ -17,7 +17,7 @@ ghost use Rattle.refusal_causes.specs.inner.Listed.{IsFreeFor, IsGroup, JoinsInG
 use crate::alone::{need_at, note_of_task};
 use crate::barring::{SpawnBar, bar_in_group};
 use crate::cause::RuleCause;
-use crate::found::Found;
+use crate::found::FoundFailures;
 use crate::needing::needs_of;
 use crate::ordering::place_of_making;
 use cover_flow::{Points, flow};
@@ -108,7 +108,7 @@ fn bar_for(
 
 /// Notes that one of these spawns bars an effect that is needed for the act, if one does.
 fn note_barred(
-    found: &mut Found,
+    found: &mut FoundFailures,
     alloc: Global,
     p: &Prog,
     task: &Decl,
@@ -159,7 +159,7 @@ fn note_barred(
 
 /// Notes that the act joins one of these futures which is not surely out, if it does.
 fn note_join(
-    found: &mut Found,
+    found: &mut FoundFailures,
     p: &Prog,
     task: &Decl,
     points: &Points,
@@ -202,7 +202,7 @@ fn note_join(
 
 /// Notes that the act spawns into one of these futures which may be out, if it does.
 fn note_spawn(
-    found: &mut Found,
+    found: &mut FoundFailures,
     p: &Prog,
     task: &Decl,
     points: &Points,
@@ -247,7 +247,7 @@ fn note_spawn(
 
 /// Notes what the task fails by this act since one of these futures may be out, or is not surely out.
 fn note_in_group(
-    found: &mut Found,
+    found: &mut FoundFailures,
     alloc: Global,
     p: &Prog,
     task: &Decl,
@@ -272,7 +272,7 @@ fn note_in_group(
 /// Notes what the task fails since one of the 128 futures from this one on may be out, or is not surely out. All acts of the task
 /// are given.
 pub fn note_group(
-    found: &mut Found,
+    found: &mut FoundFailures,
     alloc: Global,
     p: &Prog,
     task: &Decl,

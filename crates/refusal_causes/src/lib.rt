@@ -34,6 +34,6 @@ pub use explained::{Explained, explain};
 pub use found::CausedFailure;
 pub use laws::trails_are_control_paths;
 pub use listing::all_causes;
-pub use next_tokens::{NextToken, NextTokens};
+pub use next_tokens::{NextToken, NextTokens, is_of_end};
 pub use places::{Four, KeptPlaces};
-pub use way::{Begins, Way};
+pub use way::{Begins, ControlWay};

@@ -11,7 +11,7 @@ ghost use Rattle.refusal_causes.specs.inner.Found.{Grows, IsUnlisted};
 ghost use Rattle.refusal_causes.specs.inner.Keeping.{KeepsThere};
 
 use crate::alone::{note_all_alone, note_undeclared};
-use crate::found::{CausedFailure, Found};
+use crate::found::{CausedFailure, FoundFailures};
 use crate::group::note_group;
 use cover_flow::FUTURES_AT_ONCE;
 use effect_check::acts_of_body;
@@ -20,7 +20,7 @@ use twe_base::{List, Memory};
 use twe_program::{Decl, Prog};
 
 /// Notes what the task fails.
-fn note_task(found: &mut Found, alloc: Global, p: &Prog, task: &Decl) -> Result<(), Memory>
+fn note_task(found: &mut FoundFailures, alloc: Global, p: &Prog, task: &Decl) -> Result<(), Memory>
     requires fits { DeclFits p.now task.now }
     requires inside { Contains p.now.tasks task.now }
     ensures grows { OnOk result (Grows p.now found.old found.new) }
@@ -37,7 +37,12 @@ fn note_task(found: &mut Found, alloc: Global, p: &Prog, task: &Decl) -> Result<
 }
 
 /// Notes what the method fails.
-fn note_method(found: &mut Found, alloc: Global, p: &Prog, method: &Decl) -> Result<(), Memory>
+fn note_method(
+    found: &mut FoundFailures,
+    alloc: Global,
+    p: &Prog,
+    method: &Decl,
+) -> Result<(), Memory>
     requires inside { Contains p.now.methods method.now }
     ensures grows { OnOk result (Grows p.now found.old found.new) }
     ensures kept { OnOk result ((place : At) → IsUnlisted found.new E8 place → KeepsThere p.now E8 place method.now) }
@@ -50,7 +55,7 @@ fn note_method(found: &mut Found, alloc: Global, p: &Prog, method: &Decl) -> Res
 }
 
 /// Notes what the tasks fail.
-fn note_tasks(found: &mut Found, alloc: Global, p: &Prog) -> Result<(), Memory>
+fn note_tasks(found: &mut FoundFailures, alloc: Global, p: &Prog) -> Result<(), Memory>
     ensures grows { OnOk result (Grows p.now found.old found.new) }
     ensures kept { OnOk result ((rule : Named) (place : At) → is_of_methods rule ≡ false → IsUnlisted found.new rule place
         → All (KeepsThere p.now rule place) p.now.tasks) }
@@ -63,7 +68,7 @@ fn note_tasks(found: &mut Found, alloc: Global, p: &Prog) -> Result<(), Memory>
 }
 
 /// Notes what the methods fail.
-fn note_methods(found: &mut Found, alloc: Global, p: &Prog) -> Result<(), Memory>
+fn note_methods(found: &mut FoundFailures, alloc: Global, p: &Prog) -> Result<(), Memory>
     ensures grows { OnOk result (Grows p.now found.old found.new) }
     ensures kept { OnOk result ((place : At) → IsUnlisted found.new E8 place
         → All (KeepsThere p.now E8 place) p.now.methods) }
@@ -80,7 +85,7 @@ fn note_methods(found: &mut Found, alloc: Global, p: &Prog) -> Result<(), Memory
 pub fn all_causes(alloc: Global, p: &Prog) -> Result<List<CausedFailure>, Memory>
     ensures { IfOk result (AreAllCauses p.now) }
 {
-    let mut found = Found::new(alloc, p);
+    let mut found = FoundFailures::new(alloc, p);
     note_tasks(&mut found, alloc, p)?;
     note_methods(&mut found, alloc, p)?;
     let failures = found.into_list(alloc)?;

@@ -110,7 +110,7 @@ fn tried(alloc: Global, before: &[u8], token: NextToken) -> Result<Bytes, Memory
 }
 
 /// Whether the rule is the one of texts that end too early.
-fn is_of_end(rule: RuleName) -> bool
+pub fn is_of_end(rule: RuleName) -> bool
     ensures { result ≡ next.is_of_end rule }
 {
     match rule {

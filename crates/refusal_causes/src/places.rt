@@ -78,8 +78,8 @@ pub struct KeptPlaces {
     pub first: Four,
     /// The last four, the last one first.
     pub last: Four,
-    /// How many places there are: from 0 to 8, or 9 for more than eight.
-    pub count: u8,
+    /// How many places there are; `u64::MAX` for so many or more.
+    pub count: u64,
 }
 
 impl KeptPlaces {
@@ -107,7 +107,11 @@ impl KeptPlaces {
         KeptPlaces {
             first: self.first.with_next(place),
             last: self.last.with_front(place),
-            count: if self.count < 9 { self.count + 1 } else { 9 },
+            count: if self.count < u64::MAX {
+                self.count + 1
+            } else {
+                u64::MAX
+            },
         }
     }
 }

@@ -4,7 +4,7 @@ ghost use Rattle.refusal_causes.specs.inner.Reached.{noted, reached, reached_all
 ghost use Rattle.refusal_causes.specs.inner.Traced.{nowhere, traced, traced_all, traced_one};
 
 use crate::tracing::trace_statement;
-use crate::ways::Ways;
+use crate::ways::OutWays;
 use twe_program::{Arms, Block, Stmt, StmtKind};
 
 /// The future, the point, and the point to which a return goes.
@@ -19,7 +19,7 @@ pub struct Aim {
 }
 
 /// Takes the shorter ones of the ways found and of these, if these are at the point.
-pub fn note_ways(found: &mut Ways, at: u32, aim: Aim, ways: Ways)
+pub fn note_ways(found: &mut OutWays, at: u32, aim: Aim, ways: OutWays)
     ensures { found.new ≡ noted aim.point at ways found.old }
 {
     if at == aim.point {
@@ -29,7 +29,7 @@ pub fn note_ways(found: &mut Ways, at: u32, aim: Aim, ways: Ways)
 
 /// Adds the ways that come to the point within a statement to those found. Returns the ways through it.
 #[cycle(reach)]
-fn reach_statement(found: &mut Ways, stmt: &Stmt, aim: Aim, ways: Ways) -> Ways
+fn reach_statement(found: &mut OutWays, stmt: &Stmt, aim: Aim, ways: OutWays) -> OutWays
     ensures after { result ≡ traced aim.future stmt.now ways }
     ensures found { found.new ≡ reached aim.future aim.point aim.end stmt.now ways found.old }
 {
@@ -51,7 +51,7 @@ fn reach_statement(found: &mut Ways, stmt: &Stmt, aim: Aim, ways: Ways) -> Ways
         StmtKind::Return(_) => {
             note_ways(found, stmt.point, aim, ways);
             note_ways(found, aim.end, aim, ways);
-            Ways::nowhere()
+            OutWays::nowhere()
         }
         _ => {
             note_ways(found, stmt.point, aim, ways);
@@ -62,7 +62,7 @@ fn reach_statement(found: &mut Ways, stmt: &Stmt, aim: Aim, ways: Ways) -> Ways
 
 /// Does the same for the statements of a block.
 #[cycle(reach)]
-pub fn reach_block(found: &mut Ways, block: &Block, aim: Aim, ways: Ways) -> Ways
+pub fn reach_block(found: &mut OutWays, block: &Block, aim: Aim, ways: OutWays) -> OutWays
     ensures after { result ≡ traced_all aim.future block.now ways }
     ensures found { found.new ≡ reached_all aim.future aim.point aim.end block.now ways found.old }
 {
@@ -75,11 +75,11 @@ pub fn reach_block(found: &mut Ways, block: &Block, aim: Aim, ways: Ways) -> Way
 
 /// Does the same for the branches.
 #[cycle(reach)]
-fn reach_arms(found: &mut Ways, arms: &Arms, aim: Aim, ways: Ways) -> Ways
+fn reach_arms(found: &mut OutWays, arms: &Arms, aim: Aim, ways: OutWays) -> OutWays
     ensures after { result ≡ traced_one aim.future nowhere arms.now ways }
     ensures found { found.new ≡ reached_one aim.future aim.point aim.end arms.now ways found.old }
 {
-    let mut after = Ways::nowhere();
+    let mut after = OutWays::nowhere();
     for arm in arms.arms.as_slice() {
         after = after.or(reach_block(found, &arm.body, aim, ways));
     }

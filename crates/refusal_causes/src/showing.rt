@@ -3,11 +3,11 @@ ghost use Rattle.refusal_causes.specs.Ways.{IsOnNone};
 ghost use Rattle.refusal_causes.specs.Causes.{IsWayIf};
 
 use crate::answer::way_to;
-use crate::way::Way;
+use crate::way::ControlWay;
 use twe_program::Body;
 
 /// A way to the point on which the future is out or, if `out` is false, is not: if ways are wanted. There is one.
-pub fn way_if(ways: bool, body: &Body, point: u32, future: u32, out: bool) -> Option<Way>
+pub fn way_if(ways: bool, body: &Body, point: u32, future: u32, out: bool) -> Option<ControlWay>
     requires { ¬ IsOnNone body.now point future out }
     ensures { IsWayIf ways body.now point future out result }
 {

@@ -21,7 +21,7 @@ pub enum Begins {
 
 /// The places of what a control path carries out, from where it begins.
 #[derive(Clone, Copy, Debug)]
-pub struct Way {
+pub struct ControlWay {
     /// Where it begins.
     pub begins: Begins,
     /// The places of its statements that have one, and of the loops whose turns it enters, in the order of the path. A
@@ -80,34 +80,34 @@ fn with_place(places: KeptPlaces, stmt: &Stmt) -> KeptPlaces
     }
 }
 
-impl Way {
+impl ControlWay {
     /// The way of a path that has carried out nothing.
-    pub(crate) fn empty() -> Way
+    pub(crate) fn empty() -> ControlWay
         ensures { result ≡ way_along 0 [] }
     {
-        Way {
+        ControlWay {
             begins: Begins::Start,
             places: KeptPlaces::none(),
         }
     }
 
     /// The way of the path that goes on by this statement, or by the entry into a turn of this loop.
-    pub(crate) fn carry(self, stmt: &Stmt, future: u32) -> Way
+    pub(crate) fn carry(self, stmt: &Stmt, future: u32) -> ControlWay
         ensures { result ≡ carried future stmt.now self }
     {
         if puts_out(stmt, future) {
-            return Way {
+            return ControlWay {
                 begins: Begins::Spawn,
                 places: with_place(KeptPlaces::none(), stmt),
             };
         }
         if takes_in(stmt, future) {
-            return Way {
+            return ControlWay {
                 begins: Begins::Join,
                 places: with_place(KeptPlaces::none(), stmt),
             };
         }
-        Way {
+        ControlWay {
             begins: self.begins,
             places: with_place(self.places, stmt),
         }

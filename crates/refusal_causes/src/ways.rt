@@ -2,20 +2,20 @@
 ghost use Rattle.std.specs.Prelude.{◌≡◌, option_map};
 ghost use Rattle.refusal_causes.specs.inner.Traced.{carried, either, nowhere, shorter, start, stepped};
 
-use crate::way::{Way, puts_out, takes_in};
+use crate::way::{ControlWay, puts_out, takes_in};
 use twe_program::Stmt;
 
 /// A way on which the future is out, and one on which it is not, if there are such.
 #[derive(Clone, Copy, Debug)]
-pub struct Ways {
+pub struct OutWays {
     /// On this one it is out.
-    pub out: Option<Way>,
+    pub out: Option<ControlWay>,
     /// On this one it is not.
-    pub not_out: Option<Way>,
+    pub not_out: Option<ControlWay>,
 }
 
 /// The way that goes on by this statement, if there is one.
-fn carry(way: Option<Way>, stmt: &Stmt, future: u32) -> Option<Way>
+fn carry(way: Option<ControlWay>, stmt: &Stmt, future: u32) -> Option<ControlWay>
     ensures { result ≡ option_map (carried future stmt.now) way }
 {
     match way {
@@ -25,7 +25,7 @@ fn carry(way: Option<Way>, stmt: &Stmt, future: u32) -> Option<Way>
 }
 
 /// Of two ways the one with fewer places, and the first one if they have as many.
-fn shorter(way: Option<Way>, other: Option<Way>) -> Option<Way>
+fn shorter(way: Option<ControlWay>, other: Option<ControlWay>) -> Option<ControlWay>
     ensures { result ≡ shorter way other }
 {
     match (way, other) {
@@ -41,55 +41,55 @@ fn shorter(way: Option<Way>, other: Option<Way>) -> Option<Way>
     }
 }
 
-impl Ways {
+impl OutWays {
     /// The ways at the start of a body.
-    pub fn at_start() -> Ways
+    pub fn at_start() -> OutWays
         ensures { result ≡ start }
     {
-        Ways {
+        OutWays {
             out: None,
-            not_out: Some(Way::empty()),
+            not_out: Some(ControlWay::empty()),
         }
     }
 
     /// The ways if no path comes.
-    pub fn nowhere() -> Ways
+    pub fn nowhere() -> OutWays
         ensures { result ≡ nowhere }
     {
-        Ways {
+        OutWays {
             out: None,
             not_out: None,
         }
     }
 
     /// The shorter ones of these ways and the others.
-    pub fn or(self, other: Ways) -> Ways
+    pub fn or(self, other: OutWays) -> OutWays
         ensures { result ≡ either self other }
     {
-        Ways {
+        OutWays {
             out: shorter(self.out, other.out),
             not_out: shorter(self.not_out, other.not_out),
         }
     }
 
     /// The ways that go on by this statement, or by the entry into a turn of this loop.
-    pub fn step(self, stmt: &Stmt, future: u32) -> Ways
+    pub fn step(self, stmt: &Stmt, future: u32) -> OutWays
         ensures { result ≡ stepped future stmt.now self }
     {
         let out = carry(self.out, stmt, future);
         let not_out = carry(self.not_out, stmt, future);
         if puts_out(stmt, future) {
-            return Ways {
+            return OutWays {
                 out: shorter(out, not_out),
                 not_out: None,
             };
         }
         if takes_in(stmt, future) {
-            return Ways {
+            return OutWays {
                 out: None,
                 not_out: shorter(out, not_out),
             };
         }
-        Ways { out, not_out }
+        OutWays { out, not_out }
     }
 }

@@ -9,7 +9,7 @@ use Rattle.twe_frontend.specs.declared.refusal.Refusal.{Refusal}
 use Rattle.twe_frontend.specs.Accepted.{Accepted, IsRefusal, IsTreeOf}
 use Rattle.refusal_causes.specs.declared.cause.RuleCause.{RuleCause}
 use Rattle.refusal_causes.specs.declared.next_tokens.NextToken.{NextToken}
-use Rattle.name_needs.specs.declared.need.NameNeed.{NameNeed}
+use Rattle.name_causes.specs.declared.need.NameNeed.{NameNeed}
 use Rattle.refusal_causes.specs.declared.text_rules.cause.TextCause.{TextCause}
 use Rattle.refusal_causes.specs.Explained.{IsCausedBy, IsNameCauseOf, IsTextCauseOf, is_of_names, is_of_tokens}
 use Rattle.refusal_causes.specs.NextTokens.{AreNextAt, is_of_end}
@@ -19,14 +19,14 @@ use Rattle.twe_io.specs.declared.status.Status.TheVariants.{Done, Refused}
 use Rattle.twe_io.specs.Answers.{on_out}
 use Rattle.refusal_notes.specs.Early.{early_explanation}
 use Rattle.refusal_notes.specs.Explanation.{explanation_by, place_of_cause}
-use Rattle.place_notes.specs.declared.note.Explanation.{Explanation}
+use Rattle.explain_pages.specs.declared.places.note.Explanation.{Explanation}
 use Rattle.refusal_notes.specs.declared.mends.Mend.{Mend}
 use Rattle.refusal_notes.specs.Meetings.{IsMeetingTold}
 use Rattle.refusal_notes.specs.Mends.{AreTried, mends_for}
-use Rattle.name_notes.specs.Named.{named_explanation}
+use Rattle.explain_pages.specs.names.Named.{named_explanation}
 use Rattle.refusal_notes.specs.Tokens.{stray_explanation}
 use Rattle.refusal_notes.specs.Unclosed.{unclosed_explanation}
-use Rattle.name_notes.specs.Variables.{variables_at}
+use Rattle.explain_pages.specs.names.Variables.{variables_at}
 use Rattle.explain_pages.specs.Page.{refused_text}
 use Rattle.explain_pages.specs.declared.wanted.Wanted.{Wanted}
 

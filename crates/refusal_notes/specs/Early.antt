@@ -4,10 +4,10 @@ use Rattle.twe_base.specs.Language.{max_literal, max_open_brackets, max_operator
 use Rattle.twe_frontend.specs.declared.refusal.Refusal.{Refusal}
 use Rattle.refusal_causes.specs.declared.text_rules.cause.TextCause.{TextCause}
 use Rattle.refusal_causes.specs.declared.text_rules.cause.TextCause.TheVariants as causes
-use Rattle.name_notes.specs.Sentences.{asked, wrong}
-use Rattle.place_notes.specs.Excerpt.{shown_byte}
-use Rattle.place_notes.specs.Notes.{note_at}
-use Rattle.place_notes.specs.declared.note.Explanation.{Explanation}
+use Rattle.explain_pages.specs.names.Sentences.{asked, wrong}
+use Rattle.explain_pages.specs.places.Excerpt.{shown_byte}
+use Rattle.explain_pages.specs.places.Notes.{note_at}
+use Rattle.explain_pages.specs.declared.places.note.Explanation.{Explanation}
 
 -- how many there are, and how many there may be
 abbrev pub count_words : List ℕ → ℕ → ℕ → List ℕ

@@ -1,7 +1,7 @@
 -- Edits of a text: where they begin, and what the text is afterwards.
 use Rattle.std.specs.Prelude.{ℕ, suc, ◌-◌, Bool, ◌||◌, ◌==◌, List, [], ◌∷◌, ◌++◌, length, take, drop, bytes_eq, if◌then◌else◌}
 use Rattle.std.specs.List.{prefix_len}
-use Rattle.place_notes.specs.Lines.{after_lines, line_at}
+use Rattle.twe_frontend.specs.Lines.{after_lines, line_at}
 
 -- a space or a tab
 abbrev pub is_indent : ℕ → Bool

@@ -3,15 +3,15 @@ use Rattle.std.specs.Prelude.{ℕ, Bool, ◌||◌, List, [], ◌∷◌, ◌++◌
 use Rattle.twe_base.specs.declared.place.Place.{Place}
 use Rattle.effect_sets.specs.declared.effects.Effect.{Effect}
 use Rattle.twe_ast.specs.declared.name.Name as written
-use Rattle.text_meaning.specs.EffectTexts.{effect_text, effects_text}
-use Rattle.refusal_causes.specs.declared.way.Way.{Way}
+use Rattle.twe_frontend.specs.meaning.EffectTexts.{effect_text, effects_text}
+use Rattle.refusal_causes.specs.declared.way.ControlWay.{ControlWay}
 use Rattle.twe_frontend.specs.declared.refusal.Refusal.{Refusal}
 use Rattle.refusal_causes.specs.declared.cause.RuleCause.{RuleCause}
 use Rattle.refusal_causes.specs.declared.cause.RuleCause.TheVariants.{Undeclared, Out, NotOut, OutAgain, OrderOpen, NotDeterministic}
-use Rattle.place_notes.specs.declared.note.Explanation.{Explanation}
+use Rattle.explain_pages.specs.declared.places.note.Explanation.{Explanation}
 use Rattle.refusal_notes.specs.Effects.{has_any_index}
-use Rattle.name_notes.specs.Sentences.{asked, wrong}
-use Rattle.place_notes.specs.Notes.{note_at}
+use Rattle.explain_pages.specs.names.Sentences.{asked, wrong}
+use Rattle.explain_pages.specs.places.Notes.{note_at}
 use Rattle.refusal_notes.specs.Ruled.{child_explanation, join_explanation, order_explanation, spawn_explanation}
 use Rattle.refusal_notes.specs.Ways.{out_reason}
 
@@ -47,7 +47,7 @@ undeclared_explanation refusal decl_place declares needs any_index = record {
 }
 
 -- an effect is needed that a spawned task may still have
-abbrev pub out_explanation : Refusal → Place → Option Way → List ℕ → List ℕ → Bool → Explanation
+abbrev pub out_explanation : Refusal → Place → Option ControlWay → List ℕ → List ℕ → Bool → Explanation
 out_explanation refusal future_place way has needs any_index = record {
   headline = codes "an effect is needed here that may still be out with a spawned task";
   notes = note_at future_place has ∷ note_at refusal.place needs ∷ [];

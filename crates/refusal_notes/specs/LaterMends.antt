@@ -1,7 +1,7 @@
 -- Edits by which a task is made by `executeLater` in place of `spawn`, so that it needs no effect of its maker.
 use Rattle.std.specs.Prelude.{ℕ, Bool, List, [], ◌∷◌, ◌++◌, drop, codes, decimal, if◌then◌else◌}
 use Rattle.twe_base.specs.declared.place.Place.{Place}
-use Rattle.place_notes.specs.WordAt.{word_at}
+use Rattle.explain_pages.specs.places.WordAt.{word_at}
 use Rattle.refusal_causes.specs.text_rules.Behind.{from_place}
 use Rattle.refusal_notes.specs.declared.mends.Mend.{Mend}
 use Rattle.refusal_notes.specs.Edits.{begins_with, from_first, with_end}

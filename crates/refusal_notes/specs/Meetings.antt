@@ -15,8 +15,8 @@ use Rattle.effect_meeting.specs.declared.met.Met.{Met}
 use Rattle.effect_meeting.specs.declared.values.ParamValue.{ParamValue}
 use Rattle.effect_meeting.specs.Meeting.{IsWhereMet, NeverMeet}
 use Rattle.effect_meeting.specs.Cells.{IsFirstMet, IsNeverMet}
-use Rattle.text_meaning.specs.PathTexts.{in_brackets, parameter_at, path_text}
-use Rattle.name_notes.specs.Variables.{is_same_place}
+use Rattle.twe_frontend.specs.meaning.PathTexts.{in_brackets, parameter_at, path_text}
+use Rattle.explain_pages.specs.names.Variables.{is_same_place}
 use Rattle.refusal_causes.specs.declared.cause.RuleCause.{RuleCause}
 use Rattle.refusal_causes.specs.declared.cause.RuleCause.TheVariants.{Undeclared, Out, NotOut, OutAgain, OrderOpen, NotDeterministic}
 

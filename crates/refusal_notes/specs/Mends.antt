@@ -7,11 +7,11 @@ use Rattle.twe_ast.specs.declared.name.Name as written
 use Rattle.twe_program.specs.Program.{Program}
 use Rattle.twe_frontend.specs.declared.refusal.Refusal.{Refusal}
 use Rattle.twe_frontend.specs.Accepted.{Accepted, IsRefusal}
-use Rattle.text_meaning.specs.EffectTexts.{effect_text}
+use Rattle.twe_frontend.specs.meaning.EffectTexts.{effect_text}
 use Rattle.refusal_causes.specs.declared.cause.RuleCause.{RuleCause}
 use Rattle.refusal_causes.specs.declared.cause.RuleCause.TheVariants.{Undeclared, Out, NotOut, OutAgain, OrderOpen, NotDeterministic}
 use Rattle.refusal_notes.specs.declared.mends.Mend.{Mend}
-use Rattle.place_notes.specs.WordAt.{word_at}
+use Rattle.explain_pages.specs.places.WordAt.{word_at}
 use Rattle.refusal_causes.specs.text_rules.Behind.{from_place}
 use Rattle.refusal_notes.specs.Edits.{from_first, from_statement, with_end, without_first}
 use Rattle.refusal_notes.specs.LaterMends.{later_mend, later_mends}

@@ -1,16 +1,16 @@
 -- What is said of a rule on joins, spawns or deterministic tasks that fails.
 use Rattle.std.specs.Prelude.{ℕ, Bool, List, [], ◌∷◌, ◌++◌, Option, None, Some, codes, if◌then◌else◌}
 use Rattle.twe_base.specs.declared.place.Place.{Place}
-use Rattle.refusal_causes.specs.declared.way.Way.{Way}
+use Rattle.refusal_causes.specs.declared.way.ControlWay.{ControlWay}
 use Rattle.twe_frontend.specs.declared.refusal.Refusal.{Refusal}
-use Rattle.place_notes.specs.declared.note.Explanation.{Explanation}
-use Rattle.place_notes.specs.declared.note.Note.{Note}
-use Rattle.place_notes.specs.Notes.{note_at}
-use Rattle.name_notes.specs.Sentences.{asked, wrong}
+use Rattle.explain_pages.specs.declared.places.note.Explanation.{Explanation}
+use Rattle.explain_pages.specs.declared.places.note.Note.{Note}
+use Rattle.explain_pages.specs.places.Notes.{note_at}
+use Rattle.explain_pages.specs.names.Sentences.{asked, wrong}
 use Rattle.refusal_notes.specs.Ways.{way_remarks}
 
 -- the sentences of the rule, these places, the way if there is one, and one remark more
-abbrev pub ruled_explanation : Refusal → List Note → Option Way → List ℕ → Explanation
+abbrev pub ruled_explanation : Refusal → List Note → Option ControlWay → List ℕ → Explanation
 ruled_explanation refusal notes way remark = record {
   headline = wrong refusal.rule;
   notes = notes;
@@ -24,13 +24,13 @@ join_notes (Some made) place =
     note_at made (codes "its task is spawned here") ∷ note_at place (codes "it may be joined already") ∷ []
 
 -- the future of a join is not out on some way to it
-abbrev pub join_explanation : Refusal → Option Place → Option Way → Explanation
+abbrev pub join_explanation : Refusal → Option Place → Option ControlWay → Explanation
 join_explanation refusal made way =
     ruled_explanation refusal (join_notes made refusal.place) way
     (codes "join it once for each spawn: not again after a branch, or in the next turn of a loop")
 
 -- the future of a spawn is out already on some way to it
-abbrev pub spawn_explanation : Refusal → Option Way → Explanation
+abbrev pub spawn_explanation : Refusal → Option ControlWay → Explanation
 spawn_explanation refusal way =
     ruled_explanation refusal (note_at refusal.place (codes "the task of an earlier turn may be out") ∷ []) way
     (codes "join it in the same turn, and the tasks run one after another; or use executeLater, and their order is open")

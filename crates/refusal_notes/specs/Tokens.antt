@@ -5,7 +5,7 @@ use Rattle.twe_lexer.specs.Spelling.{spelling}
 use Rattle.twe_frontend.specs.declared.refusal.Refusal.{Refusal}
 use Rattle.refusal_causes.specs.declared.next_tokens.NextToken.{NextToken}
 use Rattle.refusal_causes.specs.declared.next_tokens.NextToken.TheVariants.{Name, Number, Fixed}
-use Rattle.place_notes.specs.declared.note.Explanation.{Explanation}
+use Rattle.explain_pages.specs.declared.places.note.Explanation.{Explanation}
 use Rattle.refusal_notes.specs.Explanation.{explanation_of}
 
 -- what people read of a token

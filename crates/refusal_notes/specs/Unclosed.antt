@@ -3,9 +3,9 @@ use Rattle.std.specs.Prelude.{◌-◌, List, [], ◌∷◌, ◌++◌, codes, dro
 use Rattle.std.specs.List.{flat_map}
 use Rattle.twe_base.specs.declared.place.Place.{Place}
 use Rattle.twe_frontend.specs.declared.refusal.Refusal.{Refusal}
-use Rattle.place_notes.specs.Notes.{note_at}
-use Rattle.place_notes.specs.declared.note.Explanation.{Explanation}
-use Rattle.place_notes.specs.declared.note.Note.{Note}
+use Rattle.explain_pages.specs.places.Notes.{note_at}
+use Rattle.explain_pages.specs.declared.places.note.Explanation.{Explanation}
+use Rattle.explain_pages.specs.declared.places.note.Note.{Note}
 use Rattle.refusal_causes.specs.declared.next_tokens.NextToken.{NextToken}
 use Rattle.refusal_notes.specs.Tokens.{stray_explanation}
 

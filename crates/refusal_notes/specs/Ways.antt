@@ -5,7 +5,7 @@ use Rattle.refusal_causes.specs.declared.places.Four.{Four}
 use Rattle.refusal_causes.specs.declared.places.KeptPlaces.{KeptPlaces}
 use Rattle.refusal_causes.specs.declared.way.Begins.{Begins}
 use Rattle.refusal_causes.specs.declared.way.Begins.TheVariants.{Start, Spawn, Join}
-use Rattle.refusal_causes.specs.declared.way.Way.{Way}
+use Rattle.refusal_causes.specs.declared.way.ControlWay.{ControlWay}
 use Rattle.twe_report.specs.Texts.{place_text}
 
 -- the place, if there is one
@@ -47,15 +47,15 @@ heading_text Start count =
     else codes "a way on which it is not out: never spawned"
 
 -- what is said of a way
-abbrev pub way_text : Way → List ℕ
+abbrev pub way_text : ControlWay → List ℕ
 way_text way = heading_text way.begins way.places.count ++ way_places_text way.places
 
 -- why an effect of a spawned task may be out: the way on which it is, if there is one
-abbrev pub out_reason : Option Way → List ℕ
+abbrev pub out_reason : Option ControlWay → List ℕ
 out_reason None = codes "on some way to here that task is spawned and not joined, and one of both effects writes"
 out_reason (Some way) = way_text way
 
 -- a remark on the way, if there is one
-abbrev pub way_remarks : Option Way → List (List ℕ)
+abbrev pub way_remarks : Option ControlWay → List (List ℕ)
 way_remarks None = []
 way_remarks (Some way) = way_text way ∷ []

@@ -6,9 +6,7 @@ ghost use Rattle.refusal_notes.specs.Answers.{caused_explanation};
 
 use crate::answering::{answer_caused, answer_explained, explain_text};
 use crate::explanation::{explanation_by, place_of_cause};
-use explain_pages::{Wanted, refused_text};
-use name_notes::variables_at;
-use place_notes::Explanation;
+use explain_pages::{Explanation, Wanted, refused_text, variables_at};
 use refusal_causes::{CausedFailure, Explained, RuleCause, all_causes, explain};
 use std::alloc::Global;
 use twe_ast::Ast;

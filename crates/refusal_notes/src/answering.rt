@@ -12,17 +12,15 @@ use crate::meetings::tell_meeting;
 use crate::mends::{mends_for, try_mends};
 use crate::tokens::stray_explanation;
 use crate::unclosed::unclosed_explanation;
-use explain_pages::{Wanted, refused_text};
-use name_needs::NameNeed;
-use name_notes::{named_explanation, variables_at};
+use explain_pages::{Wanted, named_explanation, refused_text, variables_at};
+use name_causes::NameNeed;
 use refusal_causes::text_rules::{TextCause, open_at_end};
-use refusal_causes::{Explained, NextToken, RuleCause, explain};
+use refusal_causes::{Explained, NextToken, RuleCause, explain, is_of_end};
 use std::alloc::Global;
 use twe_ast::Ast;
 use twe_base::Memory;
-use twe_frontend::{Refusal, RuleName};
+use twe_frontend::Refusal;
 use twe_io::{Answer, Status};
-use twe_parser::SRule;
 use twe_program::Prog;
 use twe_report::accepted_text;
 
@@ -77,23 +75,6 @@ fn answer_accepted(alloc: Global, wanted: &Wanted, text: &[u8]) -> Result<Answer
     Ok(Answer::on_out(alloc, Status::Done, line))
 }
 
-/// The answer to a text that has this refusal with this cause.
-fn answer_refusal(
-    alloc: Global,
-    wanted: &Wanted,
-    text: &[u8],
-    refusal: Refusal,
-    cause: TextCause,
-) -> Result<Answer, Memory>
-    requires refused { IsRefusal text.now refusal }
-    requires caused { IsTextCauseOf text.now refusal.rule refusal.place cause }
-    ensures { IfOk result (ExplainDue wanted.now text.now) }
-{
-    let explanation = early_explanation(alloc, refusal, cause)?;
-    let lines = refused_text(alloc, wanted, text, refusal, &explanation)?;
-    Ok(Answer::on_out(alloc, Status::Refused, lines))
-}
-
 /// The answer to a text that has this refusal, at its end, where these tokens may stand.
 fn answer_ended(
     alloc: Global,
@@ -113,14 +94,21 @@ fn answer_ended(
     Ok(Answer::on_out(alloc, Status::Refused, lines))
 }
 
-/// Whether the rule is the one of texts that end too early.
-fn is_of_end(rule: RuleName) -> bool
-    ensures { result ≡ is_of_end rule }
+/// The answer to a text that has this refusal with this cause.
+fn answer_refusal(
+    alloc: Global,
+    wanted: &Wanted,
+    text: &[u8],
+    refusal: Refusal,
+    cause: TextCause,
+) -> Result<Answer, Memory>
+    requires refused { IsRefusal text.now refusal }
+    requires caused { IsTextCauseOf text.now refusal.rule refusal.place cause }
+    ensures { IfOk result (ExplainDue wanted.now text.now) }
 {
-    match rule {
-        RuleName::Text(SRule::S3) => true,
-        _ => false,
-    }
+    let explanation = early_explanation(alloc, refusal, cause)?;
+    let lines = refused_text(alloc, wanted, text, refusal, &explanation)?;
+    Ok(Answer::on_out(alloc, Status::Refused, lines))
 }
 
 /// The answer to a text that has this refusal, at a place where these tokens may stand.

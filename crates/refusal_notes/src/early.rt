@@ -1,12 +1,11 @@
 //! What is said where a rule of the text fails at a byte, a number, a bracket, an operator or a comment.
 ghost use Rattle.std.specs.Prelude.{◌≡◌, ◌++◌, IfOk, OnOk, codes};
 ghost use Rattle.std.specs.Fmt.{decimal};
-ghost use Rattle.place_notes.specs.Excerpt.{shown_byte};
+ghost use Rattle.explain_pages.specs.places.Excerpt.{shown_byte};
 ghost use Rattle.refusal_notes.specs.Early.{count_words, early_explanation, text_caption};
 
+use explain_pages::{Explanation, Note, asked, push_most, push_shown, wrong};
 use itoa::Buffer;
-use name_notes::{asked, wrong};
-use place_notes::{Explanation, Note, push_shown};
 use refusal_causes::text_rules::TextCause;
 use std::alloc::Global;
 use twe_base::{Bytes, List, MAX_LITERAL, MAX_OPEN_BRACKETS, MAX_OPERATORS, Memory};
@@ -28,21 +27,13 @@ fn push_more_than(text: &mut Bytes, most: u32) -> Result<(), Memory>
     text.push_all(Buffer::new().format(most).as_bytes())
 }
 
-/// Appends how many there may be.
-fn push_limit(text: &mut Bytes, most: u64) -> Result<(), Memory>
-    ensures { OnOk result (text.new ≡ text.old ++ (codes ", and at most " ++ decimal most)) }
-{
-    text.push_all(b", and at most ")?;
-    text.push_all(Buffer::new().format(most).as_bytes())
-}
-
 /// Appends how many there are, and how many there may be.
 fn push_count(text: &mut Bytes, words: &[u8], count: u64, most: u64) -> Result<(), Memory>
     ensures { OnOk result (text.new ≡ text.old ++ count_words words.now count most) }
 {
     text.push_all(words)?;
     text.push_all(Buffer::new().format(count).as_bytes())?;
-    push_limit(text, most)
+    push_most(text, most)
 }
 
 /// Appends what is said of the place.

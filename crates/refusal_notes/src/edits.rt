@@ -3,9 +3,9 @@ ghost use Rattle.std.specs.Prelude.{◌≡◌, ◌++◌, IfOk};
 ghost use Rattle.std.specs.List.{prefix_len};
 ghost use Rattle.refusal_notes.specs.Edits.{begins_with, first_at, from_first, from_statement, indent_at, is_indent, with_end, without_first};
 
-use place_notes::{after_bytes, after_lines, first_bytes, line_at};
 use std::alloc::Global;
 use twe_base::{Bytes, Memory};
+use twe_frontend::{after_bytes, after_lines, first_bytes, line_at};
 
 /// Whether a byte is a space or a tab.
 fn is_indent(byte: u8) -> bool

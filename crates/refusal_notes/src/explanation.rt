@@ -1,20 +1,18 @@
 //! What is said of a refusal, before it is laid out.
 ghost use Rattle.std.specs.Prelude.{◌≡◌, ◌∷◌, [], IfOk, OnOk, ◌++◌};
 ghost use Rattle.refusal_notes.specs.Explanation.{declares_text, explanation_by, explanation_of, index_remarks, out_explanation, place_of_cause, undeclared_explanation, with_effect};
-ghost use Rattle.place_notes.specs.Notes.{note_at};
+ghost use Rattle.explain_pages.specs.places.Notes.{note_at};
 
 use crate::effects::has_any_index;
 use crate::ruled::{child_explanation, join_explanation, order_explanation, spawn_explanation};
 use crate::ways::out_reason;
 use effect_sets::Effect;
-use name_notes::{asked, wrong};
-use place_notes::{Explanation, Note};
-use refusal_causes::{RuleCause, Way};
+use explain_pages::{Explanation, Note, asked, wrong};
+use refusal_causes::{ControlWay, RuleCause};
 use std::alloc::Global;
-use text_meaning::{push_effect, push_effects};
 use twe_ast::Name;
 use twe_base::{Bytes, List, Memory, Place, Word};
-use twe_frontend::Refusal;
+use twe_frontend::{Refusal, push_effect, push_effects};
 
 /// What every failure of a rule has: the sentences of the rule, and the place.
 pub(crate) fn explanation_of(alloc: Global, refusal: Refusal) -> Result<Explanation, Memory>
@@ -125,7 +123,7 @@ fn out_explanation(
     alloc: Global,
     refusal: Refusal,
     future_place: Place,
-    way: &Option<Way>,
+    way: &Option<ControlWay>,
     has: Bytes,
     needs: Bytes,
     any_index: bool,

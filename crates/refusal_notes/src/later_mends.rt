@@ -1,16 +1,17 @@
 //! Edits by which a task is made by `executeLater` in place of `spawn`, so that it needs no effect of its maker.
 ghost use Rattle.std.specs.Prelude.{◌≡◌, ◌++◌, ◌∷◌, [], IfOk, OnOk};
-ghost use Rattle.place_notes.specs.WordAt.{word_at};
+ghost use Rattle.explain_pages.specs.places.WordAt.{word_at};
 ghost use Rattle.refusal_causes.specs.text_rules.Behind.{from_place};
 ghost use Rattle.refusal_notes.specs.LaterMends.{from_spawn, later_mend, later_mends, later_said, spawn_text, spawns_at};
 
 use crate::edits::{begins_with, from_first, with_end};
 use crate::mends::{Mend, Mends};
+use explain_pages::word_at;
 use itoa::Buffer;
-use place_notes::{after_bytes, word_at};
 use refusal_causes::text_rules::from_place;
 use std::alloc::Global;
 use twe_base::{Bytes, Memory, Place};
+use twe_frontend::after_bytes;
 
 /// That the task is made so in the line of the place.
 fn later_said(alloc: Global, place: Place) -> Result<Bytes, Memory>

@@ -2,26 +2,20 @@
 ghost use Rattle.std.specs.Prelude.{◌≡◌, ◌∷◌, ◌++◌, [], IfOk, OnOk};
 ghost use Rattle.std.specs.List.{All, flat_map};
 ghost use Rattle.effect_meeting.specs.Cells.{IsNeverMet};
-ghost use Rattle.name_notes.specs.Variables.{is_same_place};
+ghost use Rattle.explain_pages.specs.names.Variables.{is_same_place};
 ghost use Rattle.refusal_notes.specs.Meetings.{IsMeetingTold, MeetingDue, cell_index_text, cell_met_text, more_given_texts, nowhere_text, params_at, quoted_path, touch_text, given_text, condition_text, writers_text};
 
 use effect_meeting::{CellMet, Met, ParamValue, first_cell, meeting_path};
 use effect_sets::Effect;
+use explain_pages::is_same_place;
 use itoa::Buffer;
 use refusal_causes::RuleCause;
 use region_paths::Elem;
 use std::alloc::Global;
-use text_meaning::{push_parameter, push_path};
 use twe_ast::Name;
 use twe_base::{Bytes, List, Memory, Place, Word};
+use twe_frontend::{push_parameter, push_path};
 use twe_program::{CellDecl, Decl, Prog};
-
-/// Whether the places are the same.
-fn is_same_place(place: Place, other: Place) -> bool
-    ensures { result ≡ is_same_place place other }
-{
-    place.line == other.line && place.col == other.col
-}
 
 /// How many parameters the first of the declarations has whose name is at the place.
 fn params_at(decls: &[Decl], place: Place) -> u32

@@ -1,8 +1,8 @@
 //! Edits that may mend a text, and those of them after which it is accepted.
 ghost use Rattle.std.specs.Prelude.{◌≡◌, ◌++◌, ◌∷◌, [], codes, IfOk, OnOk};
-ghost use Rattle.text_meaning.specs.EffectTexts.{effect_text};
+ghost use Rattle.twe_frontend.specs.meaning.EffectTexts.{effect_text};
 ghost use Rattle.twe_frontend.specs.Accepted.{Accepted, IsRefusal};
-ghost use Rattle.place_notes.specs.WordAt.{word_at};
+ghost use Rattle.explain_pages.specs.places.WordAt.{word_at};
 ghost use Rattle.refusal_causes.specs.text_rules.Behind.{from_place};
 ghost use Rattle.refusal_notes.specs.Edits.{from_first, from_statement, without_first};
 ghost use Rattle.refusal_notes.specs.Mends.{AreTried, IsTried, TellsAcceptance, declared_mend, effect_mend, effect_said, has_join, is_left, join_mend, join_said, join_text, mend_remark, mends_for, moved_join_mend, out_mends, pure_mend};
@@ -10,15 +10,14 @@ ghost use Rattle.refusal_notes.specs.Mends.{AreTried, IsTried, TellsAcceptance, 
 use crate::edits::{from_first, from_statement, with_end, without_first};
 use crate::later_mends::{push_later, push_later_if};
 use effect_sets::Effect;
+use explain_pages::word_at;
 use itoa::Buffer;
-use place_notes::{after_bytes, word_at};
 use refusal_causes::RuleCause;
 use refusal_causes::text_rules::from_place;
 use std::alloc::Global;
-use text_meaning::push_effect;
 use twe_ast::Name;
 use twe_base::{Bytes, List, MAX_TEXT_BYTES, Memory, Place, Word};
-use twe_frontend::{FrontFail, Refusal, read_program};
+use twe_frontend::{FrontFail, Refusal, after_bytes, push_effect, read_program};
 use twe_program::Prog;
 
 /// An edit of a text.

@@ -1,12 +1,11 @@
 //! What is said of a rule on joins, spawns or deterministic tasks that fails.
 ghost use Rattle.std.specs.Prelude.{◌≡◌, ◌∷◌, [], IfOk};
-ghost use Rattle.place_notes.specs.Notes.{note_at};
+ghost use Rattle.explain_pages.specs.places.Notes.{note_at};
 ghost use Rattle.refusal_notes.specs.Ruled.{child_explanation, join_explanation, join_notes, order_caption, order_explanation, ruled_explanation, spawn_explanation, strict_explanation};
 
 use crate::ways::tell_way;
-use name_notes::{asked, wrong};
-use place_notes::{Explanation, Note};
-use refusal_causes::Way;
+use explain_pages::{Explanation, Note, asked, wrong};
+use refusal_causes::ControlWay;
 use std::alloc::Global;
 use twe_base::{Bytes, List, Memory, Place};
 use twe_frontend::Refusal;
@@ -33,7 +32,7 @@ fn ruled_explanation(
     alloc: Global,
     refusal: Refusal,
     notes: List<Note>,
-    way: &Option<Way>,
+    way: &Option<ControlWay>,
     remark: &[u8],
 ) -> Result<Explanation, Memory>
     ensures { IfOk result (λ explanation. explanation ≡ ruled_explanation refusal notes way.now remark.now) }
@@ -69,7 +68,7 @@ pub(crate) fn join_explanation(
     alloc: Global,
     refusal: Refusal,
     made: Option<Place>,
-    way: &Option<Way>,
+    way: &Option<ControlWay>,
 ) -> Result<Explanation, Memory>
     ensures { IfOk result (λ explanation. explanation ≡ join_explanation refusal made way.now) }
 {
@@ -87,7 +86,7 @@ pub(crate) fn join_explanation(
 pub(crate) fn spawn_explanation(
     alloc: Global,
     refusal: Refusal,
-    way: &Option<Way>,
+    way: &Option<ControlWay>,
 ) -> Result<Explanation, Memory>
     ensures { IfOk result (λ explanation. explanation ≡ spawn_explanation refusal way.now) }
 {

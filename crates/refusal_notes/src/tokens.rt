@@ -4,7 +4,7 @@ ghost use Rattle.std.specs.List.{flat_map};
 ghost use Rattle.refusal_notes.specs.Tokens.{behind_comma, stray_explanation, tokens_remark, token_words};
 
 use crate::explanation::explanation_of;
-use place_notes::Explanation;
+use explain_pages::Explanation;
 use refusal_causes::NextToken;
 use std::alloc::Global;
 use twe_base::{Bytes, Memory};

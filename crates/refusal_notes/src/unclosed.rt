@@ -4,7 +4,7 @@ ghost use Rattle.std.specs.List.{flat_map};
 ghost use Rattle.refusal_notes.specs.Unclosed.{bracket_notes, unclosed_explanation, unclosed_notes};
 
 use crate::tokens::stray_explanation;
-use place_notes::{Explanation, Note};
+use explain_pages::{Explanation, Note};
 use refusal_causes::NextToken;
 use std::alloc::Global;
 use twe_base::{Bytes, List, Memory, Place};

@@ -1,21 +1,11 @@
 //! What is said of a way.
 ghost use Rattle.std.specs.Prelude.{◌≡◌, ◌++◌, IfOk, OnOk};
-ghost use Rattle.twe_report.specs.Texts.{place_text};
 ghost use Rattle.refusal_notes.specs.Ways.{dots_text, first_text, four_text, heading_text, last_text, next_text, out_reason, way_places_text, way_remarks, way_text};
 
-use itoa::Buffer;
-use refusal_causes::{Begins, Four, KeptPlaces, Way};
+use refusal_causes::{Begins, ControlWay, Four, KeptPlaces};
 use std::alloc::Global;
 use twe_base::{Bytes, List, Memory, Place};
-
-/// Appends a place, as `6:14`.
-fn push_place(text: &mut Bytes, place: Place) -> Result<(), Memory>
-    ensures { OnOk result (text.new ≡ text.old ++ place_text place) }
-{
-    text.push_all(Buffer::new().format(place.line).as_bytes())?;
-    text.push(b':')?;
-    text.push_all(Buffer::new().format(place.col).as_bytes())
-}
+use twe_report::push_place;
 
 /// Appends the place, if there is one.
 fn push_first(text: &mut Bytes, place: Option<Place>) -> Result<(), Memory>
@@ -51,7 +41,7 @@ fn push_four(text: &mut Bytes, places: Four) -> Result<(), Memory>
 }
 
 /// Appends two dots, if there are more than eight places.
-fn push_dots(text: &mut Bytes, count: u8) -> Result<(), Memory>
+fn push_dots(text: &mut Bytes, count: u64) -> Result<(), Memory>
     ensures { OnOk result (text.new ≡ text.old ++ dots_text count) }
 {
     if count > 8 {
@@ -62,7 +52,7 @@ fn push_dots(text: &mut Bytes, count: u8) -> Result<(), Memory>
 }
 
 /// Appends those of the last four places, the last one first, that are none of the first four of this many.
-fn push_last(text: &mut Bytes, count: u8, places: Four) -> Result<(), Memory>
+fn push_last(text: &mut Bytes, count: u64, places: Four) -> Result<(), Memory>
     ensures { OnOk result (text.new ≡ text.old ++ last_text count places) }
 {
     push_next(text, if count > 7 { places.four } else { None })?;
@@ -81,7 +71,7 @@ fn push_places(text: &mut Bytes, places: &KeptPlaces) -> Result<(), Memory>
 }
 
 /// What stands before this many places of a way that begins so.
-fn heading_text(begins: Begins, count: u8) -> &'static [u8]
+fn heading_text(begins: Begins, count: u64) -> &'static [u8]
     ensures { result.now ≡ heading_text begins count }
 {
     match begins {
@@ -98,7 +88,7 @@ fn heading_text(begins: Begins, count: u8) -> &'static [u8]
 }
 
 /// What is said of a way.
-fn way_text(alloc: Global, way: &Way) -> Result<Bytes, Memory>
+fn way_text(alloc: Global, way: &ControlWay) -> Result<Bytes, Memory>
     ensures { IfOk result (λ text. text ≡ way_text way.now) }
 {
     let mut text = Bytes::from_slice(alloc, heading_text(way.begins, way.places.count))?;
@@ -107,7 +97,7 @@ fn way_text(alloc: Global, way: &Way) -> Result<Bytes, Memory>
 }
 
 /// Why an effect of a spawned task may be out: the way on which it is, if there is one.
-pub(crate) fn out_reason(alloc: Global, way: &Option<Way>) -> Result<Bytes, Memory>
+pub(crate) fn out_reason(alloc: Global, way: &Option<ControlWay>) -> Result<Bytes, Memory>
     ensures { IfOk result (λ text. text ≡ out_reason way.now) }
 {
     match way {
@@ -123,7 +113,7 @@ pub(crate) fn out_reason(alloc: Global, way: &Option<Way>) -> Result<Bytes, Memo
 pub(crate) fn tell_way(
     remarks: &mut List<Bytes>,
     alloc: Global,
-    way: &Option<Way>,
+    way: &Option<ControlWay>,
 ) -> Result<(), Memory>
     ensures { OnOk result (remarks.new ≡ remarks.old ++ way_remarks way.now) }
 {

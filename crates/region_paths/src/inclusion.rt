@@ -9,7 +9,7 @@ use crate::elements::Elem;
 use crate::paths::Path;
 
 /// Whether an element is within another: the two are equal, or the inner is any kind of index and the outer `AnyIndex`.
-fn is_within(inner: Elem, outer: Elem) -> bool
+pub fn is_within(inner: Elem, outer: Elem) -> bool
     ensures { result ≡ within inner outer }
 {
     match (inner, outer) {

@@ -10,9 +10,9 @@ mod paths;
 
 pub use disjointness::disjoint;
 pub use elements::{Elem, Elems};
-pub use inclusion::{elements_are_within, includes};
+pub use inclusion::{elements_are_within, includes, is_within};
 pub use laws::{
     apart_is_sound, filled_tests_are_exact, filling_is_sound, filling_with_numbers_is_a_valuation,
     inside_is_sound,
 };
-pub use paths::Path;
+pub use paths::{Path, fill_one};

@@ -111,7 +111,7 @@ fn elem_is_solid(elem: Elem) -> bool
 }
 
 /// The argument of the variable's number, if the element is a variable that has one; otherwise the element itself.
-fn fill_one(elem: Elem, args: &[Elem]) -> Elem
+pub fn fill_one(elem: Elem, args: &[Elem]) -> Elem
     ensures { result ≡ fill_elem args.now elem }
 {
     match elem {

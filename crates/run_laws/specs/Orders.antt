@@ -6,12 +6,12 @@ use Rattle.seg_journal.specs.declared.moves.Kind.TheVariants.{Admit}
 use Rattle.twe_base.specs.Limits.{Bounds}
 use Rattle.twe_program.specs.Program.{Program}
 use Rattle.wait_graph.specs.Waiting.{YieldsTo}
-use Rattle.twe_machine.specs.declared.state.State.{State}
-use Rattle.twe_machine.specs.declared.state.TaskRow.{TaskRow}
-use Rattle.twe_machine.specs.declared.state.TaskStatus.TheVariants.{Enabled, Made}
-use Rattle.twe_machine.specs.Legal.{Interfere}
-use Rattle.twe_machine.specs.Rows.{HasStatus, IsRow}
-use Rattle.twe_machine.specs.Runs.{state_after}
+use Rattle.machine_state.specs.declared.state.State.{State}
+use Rattle.machine_state.specs.declared.state.TaskRow.{TaskRow}
+use Rattle.machine_state.specs.declared.state.TaskStatus.TheVariants.{Enabled, Made}
+use Rattle.machine_state.specs.Legal.{Interfere}
+use Rattle.machine_state.specs.Rows.{HasStatus, IsRow}
+use Rattle.machine_state.specs.Runs.{state_after}
 
 -- an entry of the journal is a move of s that made u
 pub record HasMade (journal : List Entry) (s u : ℕ) : Type 0 where

@@ -3,7 +3,7 @@ use Rattle.std.specs.Prelude.{◌≤◌, ℕ, List, length, take}
 use Rattle.seg_journal.specs.declared.journal.Entry.{Entry}
 use Rattle.twe_base.specs.Limits.{Bounds}
 use Rattle.twe_program.specs.Program.{Program}
-use Rattle.twe_machine.specs.Runs.{AlwaysIsolated, state_after}
+use Rattle.machine_state.specs.Runs.{AlwaysIsolated, state_after}
 use Rattle.isolation_laws.specs.Conflicts.{AlwaysCovered, MoversApart}
 use Rattle.isolation_laws.specs.Within.{AlwaysWithin}
 use Rattle.determinism_laws.specs.results.Main.{MainHasItsResult}

@@ -3,22 +3,23 @@ ghost use Rattle.std.specs.Prelude.{◌≡◌, ℕ, IfOk, IsErrOf};
 ghost use Rattle.isolation_laws.specs.soundness.KeepsEffects.{KeepsEffects};
 ghost use Rattle.isolation_laws.specs.Conflicts.{AlwaysCovered};
 ghost use Rattle.isolation_laws.specs.Within.{AlwaysWithin};
-ghost use Rattle.twe_machine.specs.declared.ending.Outcome.TheVariants.{AllDone};
-ghost use Rattle.twe_machine.specs.declared.legal.Why.{Why};
-ghost use Rattle.twe_machine.specs.declared.replaying.ReplayFail.TheVariants.{Illegal};
-ghost use Rattle.twe_machine.specs.LowestFirst.{IsOver, LowestFirst};
-ghost use Rattle.twe_machine.specs.Replays.{IsFirstIllegal, IsReplay};
-ghost use Rattle.twe_machine.specs.Runs.{AlwaysIsolated, EachAtMostOnce, EachOnce, IsOutcome, Legal, state_after};
+ghost use Rattle.machine_state.specs.declared.ending.Outcome.TheVariants.{AllDone};
+ghost use Rattle.machine_state.specs.declared.why.Why.{Why};
+ghost use Rattle.machine_state.specs.declared.replay_fail.ReplayFail.TheVariants.{Illegal};
+ghost use Rattle.machine_state.specs.LowestFirst.{IsOver, LowestFirst};
+ghost use Rattle.machine_state.specs.Replays.{IsFirstIllegal, IsReplay};
+ghost use Rattle.machine_state.specs.Runs.{AlwaysIsolated, EachAtMostOnce, EachOnce, IsOutcome, Legal, state_after};
 ghost use Rattle.determinism_laws.specs.results.Main.{MainHasItsResult};
 ghost use Rattle.determinism_laws.specs.results.Results.{DeterministicTasksHaveResults};
 ghost use Rattle.run_laws.specs.SafeRuns.{MoversAlwaysApart};
 
 use crate::laws::accepted_runs_are_safe;
 use flat_sched::run_lowest;
+use machine_state::{ReplayFail, State};
 use seg_journal::{Journal, Limits, Move};
 use std::alloc::Global;
 use twe_base::Memory;
-use twe_machine::{ReplayFail, State, replay_journal};
+use twe_machine::replay_journal;
 use twe_program::Prog;
 
 /// Runs an accepted program under these limits to its end, as `run_lowest` does, which says more of the journal. At every moment

@@ -6,11 +6,11 @@ ghost use Rattle.twe_program.specs.Program.{Program};
 ghost use Rattle.twe_program.specs.WellFormed.{IsWellFormed};
 ghost use Rattle.wait_graph.specs.Waiting.{IsDone, WaitsFor, WaitsOn, WaitsOnUnlessDone, YieldsTo};
 ghost use Rattle.isolation_laws.specs.soundness.KeepsEffects.{KeepsEffects};
-ghost use Rattle.twe_machine.specs.declared.state.State.{State};
-ghost use Rattle.twe_machine.specs.declared.state.TaskStatus.TheVariants.{Enabled, Made};
-ghost use Rattle.twe_machine.specs.Legal.{Interfere, IsBar};
-ghost use Rattle.twe_machine.specs.Rows.{HasStatus};
-ghost use Rattle.twe_machine.specs.Runs.{IsReached, Legal, LegalFrom, replayed, state_after};
+ghost use Rattle.machine_state.specs.declared.state.State.{State};
+ghost use Rattle.machine_state.specs.declared.state.TaskStatus.TheVariants.{Enabled, Made};
+ghost use Rattle.machine_state.specs.Legal.{Interfere, IsBar};
+ghost use Rattle.machine_state.specs.Rows.{HasStatus};
+ghost use Rattle.machine_state.specs.Runs.{IsReached, Legal, LegalFrom, replayed, state_after};
 ghost use Rattle.run_laws.specs.Orders.{DecidesFor, EarlierYield, HasMade, IsAdmittedAfter, WasEnabledBefore};
 
 /// A task waits only for tasks that it has made. Each task is waited for by at most one other, so waits form paths: of two tasks

@@ -2,15 +2,15 @@
 ghost use Rattle.std.specs.Prelude.{◌≡◌, IfErr, IfOk};
 ghost use Rattle.twe_frontend.specs.Accepted.{Accepted};
 ghost use Rattle.twe_frontend.specs.Reads.{HasCause};
-ghost use Rattle.twe_machine.specs.LowestFirst.{IsOver, LowestFirst};
-ghost use Rattle.twe_machine.specs.Runs.{Legal, state_after};
+ghost use Rattle.machine_state.specs.LowestFirst.{IsOver, LowestFirst};
+ghost use Rattle.machine_state.specs.Runs.{Legal, state_after};
 ghost use Rattle.run_laws.specs.SafeRuns.{IsSafeRun};
 
 use crate::calls::run_accepted;
+use machine_state::State;
 use seg_journal::{Journal, Limits};
 use std::alloc::Global;
 use twe_frontend::{FrontFail, read_program};
-use twe_machine::State;
 use twe_program::Prog;
 
 /// What came of a text that is accepted.

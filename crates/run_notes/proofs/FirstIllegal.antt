@@ -6,11 +6,11 @@ use Rattle.seg_journal.specs.declared.moves.Move.{Move}
 use Rattle.seg_journal.specs.Spelling.{move_of}
 use Rattle.twe_base.specs.Limits.{Bounds}
 use Rattle.twe_program.specs.Program.{Program}
-use Rattle.twe_machine.specs.declared.legal.Why.{Why}
-use Rattle.twe_machine.specs.Moves.{start_of}
-use Rattle.twe_machine.specs.Replays.{AreLegal, IsFirstIllegal}
-use Rattle.twe_machine.specs.Runs.{Legal}
-use Rattle.twe_machine.proofs.replays.Replayed.{one_from}
+use Rattle.machine_state.specs.declared.why.Why.{Why}
+use Rattle.machine_state.specs.Moves.{start_of}
+use Rattle.machine_state.specs.Replays.{AreLegal, IsFirstIllegal}
+use Rattle.machine_state.specs.Runs.{Legal}
+use Rattle.machine_state.proofs.replays.Replayed.{one_from}
 
 -- what stands before an element, and the element
 taken : (xs ys : List Move) (mv : Move) (n : ℕ) → n ≡ length xs → take n (xs ++ mv ∷ ys) ≡ xs

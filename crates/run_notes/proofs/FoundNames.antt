@@ -14,7 +14,7 @@ use Rattle.name_check.specs.declared.names.GlobalName.{GlobalName}
 use Rattle.name_check.specs.Limits.{decls_of_item}
 use Rattle.name_check.specs.Names.{globals_of}
 use Rattle.twe_names.specs.Meaning.{decl_of, methods_of_item, tasks_of_item, program_of}
-use Rattle.name_notes.specs.Variables.{is_same_place}
+use Rattle.explain_pages.specs.names.Variables.{is_same_place}
 use Rattle.run_notes.specs.BodyVariables.{body_variables_of, body_variables_at}
 use Rattle.run_notes.specs.VariableNumbers.{variable_names, NamesVariables}
 use Rattle.run_notes.specs.FoundVariables.{FindsNames, all_declared}

@@ -18,7 +18,7 @@ use Rattle.name_check.specs.Names.{binding_of}
 use Rattle.name_check.specs.BodyScope.{counted_binding, after, after_all, after_arms, after_block}
 use Rattle.twe_names.specs.Meaning.{decl_of}
 use Rattle.twe_names.specs.BodyMeaning.{set_of, statement_of, statements_of, arms_of, expression_of}
-use Rattle.name_notes.specs.Variables.{locals_named, locals_named_in, locals_named_by, variables_of}
+use Rattle.explain_pages.specs.names.Variables.{locals_named, locals_named_in, locals_named_by, variables_of}
 use Rattle.run_notes.specs.BodyVariables.{locals_of, locals_in, locals_by, parameter, body_variables_of}
 use Rattle.run_notes.specs.VariableNumbers.{variable_names, IsNamed, AreNamed, AreNamedIn, AreNamedBy, NamesVariables}
 use Rattle.run_notes.specs.declared.body_variables.BodyVariable.{BodyVariable}

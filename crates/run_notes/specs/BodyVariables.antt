@@ -11,8 +11,8 @@ use Rattle.twe_ast.specs.Expression.{Expression, expression, Shape, Literal, Tru
 use Rattle.twe_ast.specs.Expression as args
 use Rattle.twe_ast.specs.Statement.{Statement, Block, Let, If, While, LetWait, Statements, end_of_block, statement, Arms, arm, otherwise, no_else}
 use Rattle.name_check.specs.Ends.{close_of}
-use Rattle.name_notes.specs.Declaring.{stands_before}
-use Rattle.name_notes.specs.Variables.{is_same_place}
+use Rattle.explain_pages.specs.names.Declaring.{stands_before}
+use Rattle.explain_pages.specs.names.Variables.{is_same_place}
 use Rattle.run_notes.specs.declared.body_variables.BodyVariable.{BodyVariable}
 
 -- An array, a call or an operator of the expression stands at the place. At no other part of an expression a fault is met.

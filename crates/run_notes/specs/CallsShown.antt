@@ -1,11 +1,11 @@
 -- The calls that were active at a fault.
 use Rattle.std.specs.Prelude.{◌+◌, ◌++◌, ◌==◌, ◌&&◌, ℕ, Bool, List, [], ◌∷◌, Option, None, Some, codes, decimal, if◌then◌else◌, map, slice_get, take}
 use Rattle.run_texts.specs.TaskLabels.{decl_name}
-use Rattle.seg_exec.specs.declared.active.ActiveCall.{ActiveCall}
+use Rattle.seg_meaning.specs.declared.active.ActiveCall.{ActiveCall}
 use Rattle.twe_program.specs.Program.{Program}
-use Rattle.place_notes.specs.declared.note.Note.{Note}
-use Rattle.place_notes.specs.Notes.{note_at}
-use Rattle.name_notes.specs.Variables.{is_same_place}
+use Rattle.explain_pages.specs.declared.places.note.Note.{Note}
+use Rattle.explain_pages.specs.places.Notes.{note_at}
+use Rattle.explain_pages.specs.names.Variables.{is_same_place}
 use Rattle.run_notes.specs.declared.calls_shown.CallRun.{CallRun}
 
 -- how many runs of calls are shown at most

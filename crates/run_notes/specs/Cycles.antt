@@ -3,20 +3,20 @@ use Rattle.std.specs.Prelude.{count_by, ◌++◌, ◌-◌, ◌==◌, ℕ, List, 
 use Rattle.std.specs.List.{flat_map}
 use Rattle.wait_graph.specs.declared.stuck.Edge.{Edge}
 use Rattle.twe_program.specs.Program.{Program}
-use Rattle.twe_machine.specs.declared.state.State.{State}
-use Rattle.run_causes.specs.declared.making.Making.{Making}
+use Rattle.machine_state.specs.declared.state.State.{State}
+use Rattle.run_facts.specs.declared.making.TaskMaking.{TaskMaking}
 use Rattle.twe_report.specs.Texts.{is_undone}
-use Rattle.place_notes.specs.declared.note.Explanation.{Explanation}
-use Rattle.place_notes.specs.declared.note.Note.{Note}
+use Rattle.explain_pages.specs.declared.places.note.Explanation.{Explanation}
+use Rattle.explain_pages.specs.declared.places.note.Note.{Note}
 use Rattle.run_notes.specs.Waits.{held_notes, held_rule, wait_notes}
 
 -- the task of the edge waits for the next one, or is held by it
-abbrev pub edge_notes : Program → State → List Making → Edge → List Note
+abbrev pub edge_notes : Program → State → List TaskMaking → Edge → List Note
 edge_notes p st makings edge =
     if edge.held then held_notes p st makings edge.from edge.to else wait_notes p st edge.from edge.to
 
 -- at most 50 tasks of a cycle are shown
-abbrev pub cycle_notes : Program → State → List Making → List Edge → List Note
+abbrev pub cycle_notes : Program → State → List TaskMaking → List Edge → List Note
 cycle_notes p st makings cycle = flat_map (edge_notes p st makings) (take 50 cycle)
 
 -- words and a number, unless it is 0
@@ -34,7 +34,7 @@ stuck_remarks st size =
     ++ count_remarks (codes "other tasks that are not done: ") (undone_count st - size))
 
 -- what is said of a run that is stuck in this cycle
-abbrev pub stuck_explanation : Program → State → List Making → List Edge → Explanation
+abbrev pub stuck_explanation : Program → State → List TaskMaking → List Edge → Explanation
 stuck_explanation p st makings cycle = record {
   headline = codes "each of these tasks waits for the next, or is held by it, and the last one by the first";
   notes = cycle_notes p st makings cycle;

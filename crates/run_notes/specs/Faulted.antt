@@ -10,17 +10,17 @@ use Rattle.twe_program.specs.declared.program.CellDecl.{CellDecl}
 use Rattle.twe_program.specs.declared.program.Dims.{Dims}
 use Rattle.twe_program.specs.declared.program.Dims.TheVariants.{Scalar, Row, Grid}
 use Rattle.twe_program.specs.Program.{Program}
-use Rattle.seg_exec.specs.declared.fault.FaultCause.{FaultCause}
-use Rattle.seg_exec.specs.declared.fault.FaultCause.TheVariants.{Index, GridIndex}
+use Rattle.seg_meaning.specs.declared.fault.FaultCause.{FaultCause}
+use Rattle.seg_meaning.specs.declared.fault.FaultCause.TheVariants.{Index, GridIndex}
 use Rattle.seg_exec.specs.declared.snapshot.FaultSnapshot.{FaultSnapshot}
-use Rattle.twe_machine.specs.declared.state.FirstFault.{FirstFault}
-use Rattle.twe_machine.specs.declared.state.State.{State}
-use Rattle.run_causes.specs.declared.making.Making.{Making}
-use Rattle.run_causes.specs.Makings.{making_of}
-use Rattle.place_notes.specs.declared.note.Explanation.{Explanation}
-use Rattle.place_notes.specs.declared.note.Note.{Note}
-use Rattle.place_notes.specs.WordAt.{word_at}
-use Rattle.place_notes.specs.Notes.{note_at}
+use Rattle.machine_state.specs.declared.state.FirstFault.{FirstFault}
+use Rattle.machine_state.specs.declared.state.State.{State}
+use Rattle.run_facts.specs.declared.making.TaskMaking.{TaskMaking}
+use Rattle.run_facts.specs.Makings.{making_of}
+use Rattle.explain_pages.specs.declared.places.note.Explanation.{Explanation}
+use Rattle.explain_pages.specs.declared.places.note.Note.{Note}
+use Rattle.explain_pages.specs.places.WordAt.{word_at}
+use Rattle.explain_pages.specs.places.Notes.{note_at}
 use Rattle.run_notes.specs.CallsShown.{call_notes, calls_left_out, runs_of}
 use Rattle.run_notes.specs.CellsShown.{snapshot_cells_shown}
 use Rattle.run_notes.specs.TaskTexts.{task_shown}
@@ -105,12 +105,12 @@ notes_if None caption = []
 notes_if (Some place) caption = note_at place caption ∷ []
 
 -- the task of this making is made here
-abbrev pub made_caption : Program → State → Making → List ℕ
+abbrev pub made_caption : Program → State → TaskMaking → List ℕ
 made_caption p st making =
     task_shown p st making.child ++ (codes " is made here by " ++ task_shown p st making.maker)
 
 -- where a task was made, and by whom
-abbrev pub made_notes : Program → State → Option Making → List Note
+abbrev pub made_notes : Program → State → Option TaskMaking → List Note
 made_notes p st None = []
 made_notes p st (Some making) = notes_if making.place (made_caption p st making)
 
@@ -124,7 +124,7 @@ runs_of_snapshot None = []
 runs_of_snapshot (Some snapshot) = runs_of snapshot.calls
 
 -- where the fault was met, the calls that were active, from the inside outwards, and where its task was made
-abbrev pub fault_notes : Program → State → List Making → List CallRun → ℕ → Place → List Note
+abbrev pub fault_notes : Program → State → List TaskMaking → List CallRun → ℕ → Place → List Note
 fault_notes p st makings runs task place =
     note_at place (fault_caption p st task) ∷ (call_notes p runs ++ made_notes p st (making_of makings task))
 
@@ -139,7 +139,7 @@ fault_remarks text items p lim st snapshot fault =
 -- what is said of a fault with this snapshot in a run of this text under these limits, which has come to this state; the
 -- declarations are those of the text
 abbrev pub fault_explanation
-    : List ℕ → List Item → Program → Bounds → State → List Making → Option FaultSnapshot → FirstFault → Explanation
+    : List ℕ → List Item → Program → Bounds → State → List TaskMaking → Option FaultSnapshot → FirstFault → Explanation
 fault_explanation text items p lim st makings snapshot fault = record {
   headline = fault_headline fault.kind;
   notes = fault_notes p st makings (runs_of_snapshot snapshot) fault.task fault.place;

@@ -9,16 +9,16 @@ use Rattle.seg_journal.specs.Lines.{IsFirstBadLine}
 use Rattle.seg_journal.specs.Spelling.{Spells, head_lines}
 use Rattle.twe_program.specs.Program.{Program}
 use Rattle.seg_exec.specs.declared.snapshot.FaultSnapshot.{FaultSnapshot}
-use Rattle.twe_machine.specs.declared.ending.Outcome.TheVariants as outcomes
-use Rattle.twe_machine.specs.declared.legal.Why.{Why}
-use Rattle.twe_machine.specs.declared.state.FirstFault.{FirstFault}
-use Rattle.twe_machine.specs.declared.state.State.{State}
-use Rattle.twe_machine.specs.Replays.{IsReplay}
-use Rattle.twe_machine.specs.Runs.{IsOutcome}
+use Rattle.machine_state.specs.declared.ending.Outcome.TheVariants as outcomes
+use Rattle.machine_state.specs.declared.why.Why.{Why}
+use Rattle.machine_state.specs.declared.state.FirstFault.{FirstFault}
+use Rattle.machine_state.specs.declared.state.State.{State}
+use Rattle.machine_state.specs.Replays.{IsReplay}
+use Rattle.machine_state.specs.Runs.{IsOutcome}
 use Rattle.flat_sched.specs.Stuck.{IsCycleOfReasons, IsStuckCycle}
-use Rattle.run_causes.specs.FaultSnapshots.{IsFaultSnapshot}
-use Rattle.run_causes.specs.Makings.{makings_of}
-use Rattle.run_causes.specs.NextMoves.{AreNextMoves}
+use Rattle.run_facts.specs.FaultSnapshots.{IsFaultSnapshot}
+use Rattle.run_facts.specs.Makings.{makings_of}
+use Rattle.run_facts.specs.NextMoves.{AreNextMoves}
 use Rattle.twe_report.specs.Texts.{fault_text, not_a_move_text, not_legal_text, result_text, stuck_text, unfinished_text}
 use Rattle.text_answers.specs.Answers.{default_limits, limits_with}
 use Rattle.twe_io.specs.Answers.{on_out}

@@ -3,18 +3,18 @@ use Rattle.std.specs.Prelude.{◌≡◌, ◌++◌, ℕ, List, [], ◌∷◌, Opt
 use Rattle.seg_journal.specs.declared.moves.Move.{Move}
 use Rattle.twe_base.specs.Limits.{Bounds}
 use Rattle.twe_program.specs.Program.{Program}
-use Rattle.twe_machine.specs.declared.legal.Why.{Why}
-use Rattle.twe_machine.specs.declared.legal.Why.TheVariants.{NoTask, NotMade, HeldBy, NotEnabled, WaitsFor}
-use Rattle.twe_machine.specs.declared.state.State.{State}
-use Rattle.twe_machine.specs.declared.state.TaskRow.{TaskRow}
-use Rattle.twe_machine.specs.declared.state.TaskStatus.{TaskStatus}
-use Rattle.twe_machine.specs.declared.state.TaskStatus.TheVariants.{Made, Enabled, Done, Faulted}
-use Rattle.twe_machine.specs.Replays.{IsFirstIllegal}
-use Rattle.twe_machine.specs.Runs.{state_after}
-use Rattle.run_causes.specs.declared.making.Making.{Making}
-use Rattle.run_causes.specs.Makings.{makings_of}
-use Rattle.place_notes.specs.declared.note.Explanation.{Explanation}
-use Rattle.place_notes.specs.declared.note.Note.{Note}
+use Rattle.machine_state.specs.declared.why.Why.{Why}
+use Rattle.machine_state.specs.declared.why.Why.TheVariants.{NoTask, NotMade, HeldBy, NotEnabled, WaitsFor}
+use Rattle.machine_state.specs.declared.state.State.{State}
+use Rattle.machine_state.specs.declared.state.TaskRow.{TaskRow}
+use Rattle.machine_state.specs.declared.state.TaskStatus.{TaskStatus}
+use Rattle.machine_state.specs.declared.state.TaskStatus.TheVariants.{Made, Enabled, Done, Faulted}
+use Rattle.machine_state.specs.Replays.{IsFirstIllegal}
+use Rattle.machine_state.specs.Runs.{state_after}
+use Rattle.run_facts.specs.declared.making.TaskMaking.{TaskMaking}
+use Rattle.run_facts.specs.Makings.{makings_of}
+use Rattle.explain_pages.specs.declared.places.note.Explanation.{Explanation}
+use Rattle.explain_pages.specs.declared.places.note.Note.{Note}
 use Rattle.explain_pages.specs.declared.wanted.Wanted.{Wanted}
 use Rattle.run_notes.specs.Faulted.{notes_if}
 use Rattle.explain_pages.specs.RunPage.{run_text}
@@ -46,11 +46,11 @@ abbrev pub status_caption : Program → State → ℕ → List ℕ
 status_caption p st task = task_shown p st task ++ status_of_row (slice_get st.tasks task)
 
 -- the same at the place from which it comes
-abbrev pub status_notes : Program → State → List Making → ℕ → List Note
+abbrev pub status_notes : Program → State → List TaskMaking → ℕ → List Note
 status_notes p st makings task = notes_if (origin_of p st makings task) (status_caption p st task)
 
 -- the task of a move, and the task that is in its way
-abbrev pub forbidden_notes : Program → State → List Making → ℕ → Why → List Note
+abbrev pub forbidden_notes : Program → State → List TaskMaking → ℕ → Why → List Note
 forbidden_notes p st makings task NoTask = []
 forbidden_notes p st makings task NotMade = status_notes p st makings task
 forbidden_notes p st makings task (HeldBy holder) = held_notes p st makings task holder
@@ -67,7 +67,7 @@ forbidden_remark st NotEnabled = codes "a task runs after its admission, and unt
 forbidden_remark st (WaitsFor other) = codes "a task that waits goes on when the other one is done"
 
 -- what is said of a move of this task that is not legal in a state
-abbrev pub forbidden_explanation : Program → State → List Making → ℕ → Why → Explanation
+abbrev pub forbidden_explanation : Program → State → List TaskMaking → ℕ → Why → Explanation
 forbidden_explanation p st makings task why = record {
   headline = forbidden_headline why;
   notes = forbidden_notes p st makings task why;

@@ -2,8 +2,8 @@
 use Rattle.std.specs.Prelude.{◌++◌, ℕ, ℤ, List, [], Option, None, Some, codes, decimal, slice_get}
 use Rattle.run_texts.specs.TaskLabels.{decl_name, listed_args}
 use Rattle.twe_program.specs.Program.{Program}
-use Rattle.twe_machine.specs.declared.state.State.{State}
-use Rattle.twe_machine.specs.declared.state.TaskRow.{TaskRow}
+use Rattle.machine_state.specs.declared.state.State.{State}
+use Rattle.machine_state.specs.declared.state.TaskRow.{TaskRow}
 
 -- a name and arguments, as ` `w(3, -1)``
 abbrev pub call_shown : List ℕ → List ℤ → List ℕ

@@ -6,7 +6,7 @@ use Rattle.twe_ast.specs.Statement as ast
 use Rattle.twe_program.specs.declared.program.Decl.{Decl}
 use Rattle.twe_program.specs.Numbering.{locals_of}
 use Rattle.twe_program.specs.Statement as stmt
-use Rattle.name_notes.specs.Variables.{locals_named}
+use Rattle.explain_pages.specs.names.Variables.{locals_named}
 use Rattle.run_notes.specs.declared.body_variables.BodyVariable.{BodyVariable}
 
 -- the names of variables

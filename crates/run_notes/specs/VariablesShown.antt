@@ -7,10 +7,10 @@ use Rattle.twe_ast.specs.declared.item.Ast.{Ast}
 use Rattle.twe_ast.specs.declared.item.Item.{Item}
 use Rattle.twe_program.specs.declared.program.Decl.{Decl}
 use Rattle.twe_program.specs.Program.{Program}
-use Rattle.seg_exec.specs.Arithmetic.{is_true}
-use Rattle.seg_exec.specs.declared.active.ActiveCall.{ActiveCall}
+use Rattle.seg_meaning.specs.Arithmetic.{is_true}
+use Rattle.seg_meaning.specs.declared.active.ActiveCall.{ActiveCall}
 use Rattle.seg_exec.specs.declared.snapshot.FaultSnapshot.{FaultSnapshot}
-use Rattle.twe_machine.specs.declared.state.TaskRow.{TaskRow}
+use Rattle.machine_state.specs.declared.state.TaskRow.{TaskRow}
 use Rattle.run_notes.specs.BodyVariables.{body_variables_at}
 use Rattle.run_notes.specs.declared.body_variables.BodyVariable.{BodyVariable}
 

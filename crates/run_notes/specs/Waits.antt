@@ -4,13 +4,13 @@ use Rattle.effect_sets.specs.declared.effects.Effect.{Effect}
 use Rattle.twe_base.specs.declared.place.Place.{Place}
 use Rattle.twe_program.specs.declared.program.Decl.{Decl}
 use Rattle.twe_program.specs.Program.{Program}
-use Rattle.twe_machine.specs.declared.state.State.{State}
-use Rattle.twe_machine.specs.declared.state.TaskRow.{TaskRow}
-use Rattle.run_causes.specs.declared.making.Making.{Making}
-use Rattle.run_causes.specs.Clashes.{effects_of_task, first_clashing}
-use Rattle.run_causes.specs.Makings.{making_of, place_of_row}
-use Rattle.text_meaning.specs.EffectTexts.{effect_text}
-use Rattle.place_notes.specs.declared.note.Note.{Note}
+use Rattle.machine_state.specs.declared.state.State.{State}
+use Rattle.machine_state.specs.declared.state.TaskRow.{TaskRow}
+use Rattle.run_facts.specs.declared.making.TaskMaking.{TaskMaking}
+use Rattle.run_facts.specs.Clashes.{effects_of_task, first_clashing}
+use Rattle.run_facts.specs.Makings.{making_of, place_of_row}
+use Rattle.twe_frontend.specs.meaning.EffectTexts.{effect_text}
+use Rattle.explain_pages.specs.declared.places.note.Note.{Note}
 use Rattle.run_notes.specs.Faulted.{notes_if}
 use Rattle.run_notes.specs.TaskTexts.{task_shown}
 
@@ -37,12 +37,12 @@ declared_at_row p None = None
 declared_at_row p (Some row) = place_of_decl (slice_get p.tasks row.decl)
 
 -- the place where a task was made, or if it was made by none, that of its declaration
-abbrev pub place_if_made : Program → State → ℕ → Option Making → Option Place
+abbrev pub place_if_made : Program → State → ℕ → Option TaskMaking → Option Place
 place_if_made p st task None = declared_at_row p (slice_get st.tasks task)
 place_if_made p st task (Some making) = making.place
 
 -- the place from which a task comes
-abbrev pub origin_of : Program → State → List Making → ℕ → Option Place
+abbrev pub origin_of : Program → State → List TaskMaking → ℕ → Option Place
 origin_of p st makings task = place_if_made p st task (making_of makings task)
 
 -- these words and an effect between accents, if there is one
@@ -75,7 +75,7 @@ holder_caption p st task holder =
     task_shown p st holder ++ (codes " comes from here" ++ effect_shown p (codes ", and has `") (holding_effect st task holder))
 
 -- the task is held, and the other one holds it, at the places from which they come
-abbrev pub held_notes : Program → State → List Making → ℕ → ℕ → List Note
+abbrev pub held_notes : Program → State → List TaskMaking → ℕ → ℕ → List Note
 held_notes p st makings task holder =
     notes_if (origin_of p st makings task) (held_caption p st task holder)
     ++ notes_if (origin_of p st makings holder) (holder_caption p st task holder)

@@ -1,10 +1,11 @@
 //! The variables of a body, and which of them are in scope at a place.
 ghost use Rattle.std.specs.Prelude.{◌≡◌, ◌∷◌, [], ◌++◌, IfOk, OnOk, map};
 ghost use Rattle.twe_ast.specs.Expression.{expression};
-ghost use Rattle.name_notes.specs.Declaring.{stands_before};
-ghost use Rattle.name_notes.specs.Variables.{is_same_place};
+ghost use Rattle.explain_pages.specs.names.Declaring.{stands_before};
+ghost use Rattle.explain_pages.specs.names.Variables.{is_same_place};
 ghost use Rattle.run_notes.specs.BodyVariables.{body_variables_at, body_variables_of, is_boolean, local_at, locals_by, locals_in, locals_of, parameter, stands_in, stands_in_some};
 
+use explain_pages::{is_same_place, stands_before};
 use std::alloc::Global;
 use twe_ast::{Args, Arms, Block, Decl, Expr, ExprKind, Item, LocalType, Name, Stmt, StmtKind};
 use twe_base::{List, Memory, Place};
@@ -18,20 +19,6 @@ pub(crate) struct BodyVariable {
     pub boolean: bool,
     /// Whether it is in scope at the place that was asked for.
     pub in_scope: bool,
-}
-
-/// Whether the places are the same.
-fn is_same_place(place: Place, other: Place) -> bool
-    ensures { result ≡ is_same_place place other }
-{
-    place.line == other.line && place.col == other.col
-}
-
-/// Whether one place comes before another.
-fn stands_before(place: Place, other: Place) -> bool
-    ensures { result ≡ stands_before place other }
-{
-    place.line < other.line || (place.line == other.line && place.col < other.col)
 }
 
 /// Whether an array, a call or an operator of the expression stands at the place.

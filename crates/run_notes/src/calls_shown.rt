@@ -3,9 +3,9 @@ ghost use Rattle.std.specs.Prelude.{◌≡◌, ◌++◌, ◌∷◌, IfOk, OnOk, 
 ghost use Rattle.run_texts.specs.TaskLabels.{decl_name};
 ghost use Rattle.run_notes.specs.CallsShown.{call_caption, call_note, call_notes, calls_left_out, calls_left_out_from, calls_left_out_text, is_same_call, most_runs, runs_of, times_words, with_call};
 
+use explain_pages::Note;
 use itoa::Buffer;
-use place_notes::Note;
-use seg_exec::ActiveCall;
+use seg_meaning::ActiveCall;
 use std::alloc::Global;
 use twe_base::{Bytes, List, Memory, Stack};
 use twe_program::Prog;

@@ -1,17 +1,17 @@
 //! What is said of a run that is stuck.
-ghost use Rattle.std.specs.Prelude.{◌≡◌, ◌++◌, count_by, IfOk, OnOk, decimal, take};
+ghost use Rattle.std.specs.Prelude.{◌≡◌, ◌++◌, IfOk, OnOk, decimal, take};
 ghost use Rattle.std.specs.List.{flat_map};
-ghost use Rattle.twe_report.specs.Texts.{is_undone};
 ghost use Rattle.run_notes.specs.Cycles.{count_remarks, cycle_notes, edge_notes, stuck_explanation, stuck_remarks, undone_count};
 
 use crate::waits::{held_rule, push_held_notes, push_wait_notes};
+use explain_pages::{Explanation, Note};
 use itoa::Buffer;
-use place_notes::{Explanation, Note};
-use run_causes::Making;
+use machine_state::State;
+use run_facts::TaskMaking;
 use std::alloc::Global;
 use twe_base::{Bytes, List, Memory};
-use twe_machine::{State, TaskRow, TaskStatus};
 use twe_program::Prog;
+use twe_report::undone;
 use wait_graph::Edge;
 
 /// The most tasks of a cycle that are shown.
@@ -23,7 +23,7 @@ fn push_edge_notes(
     alloc: Global,
     p: &Prog,
     st: &State,
-    makings: &[Making],
+    makings: &[TaskMaking],
     edge: Edge,
 ) -> Result<(), Memory>
     ensures { OnOk result (notes.new ≡ notes.old ++ edge_notes p.now st.now makings.now edge) }
@@ -51,7 +51,7 @@ fn edges_notes(
     alloc: Global,
     p: &Prog,
     st: &State,
-    makings: &[Making],
+    makings: &[TaskMaking],
     edges: &[Edge],
 ) -> Result<List<Note>, Memory>
     ensures { IfOk result (λ notes. notes ≡ flat_map (edge_notes p.now st.now makings.now) edges.now) }
@@ -68,7 +68,7 @@ fn cycle_notes(
     alloc: Global,
     p: &Prog,
     st: &State,
-    makings: &[Making],
+    makings: &[TaskMaking],
     cycle: &[Edge],
 ) -> Result<List<Note>, Memory>
     ensures { IfOk result (λ notes. notes ≡ cycle_notes p.now st.now makings.now cycle.now) }
@@ -100,32 +100,11 @@ fn push_count(
     remarks.push(counted(alloc, words, number)?)
 }
 
-/// Whether a task is not done.
-fn is_undone(row: &TaskRow) -> bool
-    ensures { result ≡ is_undone row.now }
-{
-    !matches!(row.status, TaskStatus::Done)
-}
-
-/// How many of the tasks are not done.
-#[tactic(auto, using(std::proofs::lemmas::List::Sums::count_by_more_yes, std::proofs::lemmas::List::Sums::count_by_more_no))]
-fn undone_among(rows: &[TaskRow]) -> usize
-    ensures { result ≡ count_by is_undone rows.now }
-{
-    let mut count = 0;
-    for row in rows {
-        if is_undone(row) {
-            count += 1;
-        }
-    }
-    count
-}
-
 /// How many tasks are not done.
 fn undone_count(st: &State) -> usize
     ensures { result ≡ undone_count st.now }
 {
-    undone_among(st.tasks.as_slice())
+    undone(st.tasks.as_slice())
 }
 
 /// What is said beside the places of a cycle.
@@ -156,7 +135,7 @@ pub(crate) fn stuck_explanation(
     alloc: Global,
     p: &Prog,
     st: &State,
-    makings: &[Making],
+    makings: &[TaskMaking],
     cycle: &[Edge],
 ) -> Result<Explanation, Memory>
     ensures { IfOk result (λ e. e ≡ stuck_explanation p.now st.now makings.now cycle.now) }

@@ -6,15 +6,16 @@ use crate::calls_shown::{CallRun, push_call_notes, push_calls_left_out, runs_of}
 use crate::cells_shown::push_snapshot_cells_shown;
 use crate::task_texts::push_task;
 use crate::variables_shown::push_snapshot_remarks;
+use explain_pages::{Explanation, Note, word_at};
 use itoa::Buffer;
-use place_notes::{Explanation, Note, word_at};
-use run_causes::{Making, making_of};
-use seg_exec::{FaultCause, FaultSnapshot};
+use machine_state::{FirstFault, State};
+use run_facts::{TaskMaking, making_of};
+use seg_exec::FaultSnapshot;
 use seg_journal::Limits;
+use seg_meaning::FaultCause;
 use std::alloc::Global;
 use twe_ast::Item;
 use twe_base::{Bytes, FaultKind, List, Memory, Place};
-use twe_machine::{FirstFault, State};
 use twe_program::{CellDecl, Dims, Prog};
 
 /// What is wrong.
@@ -197,7 +198,7 @@ fn cause_remark(
 }
 
 /// That a task is made, and by whom.
-fn made_caption(alloc: Global, p: &Prog, st: &State, making: Making) -> Result<Bytes, Memory>
+fn made_caption(alloc: Global, p: &Prog, st: &State, making: TaskMaking) -> Result<Bytes, Memory>
     ensures { IfOk result (λ text. text ≡ made_caption p.now st.now making) }
 {
     let mut text = Bytes::new(alloc);
@@ -227,7 +228,7 @@ pub(crate) fn push_made_notes(
     alloc: Global,
     p: &Prog,
     st: &State,
-    making: Option<Making>,
+    making: Option<TaskMaking>,
 ) -> Result<(), Memory>
     ensures { OnOk result (notes.new ≡ notes.old ++ made_notes p.now st.now making) }
 {
@@ -265,7 +266,7 @@ fn fault_notes(
     alloc: Global,
     p: &Prog,
     st: &State,
-    makings: &[Making],
+    makings: &[TaskMaking],
     runs: &[CallRun],
     task: u32,
     place: Place,
@@ -326,7 +327,7 @@ pub(crate) fn fault_explanation(
     p: &Prog,
     lim: Limits,
     st: &State,
-    makings: &[Making],
+    makings: &[TaskMaking],
     snapshot: &Option<FaultSnapshot>,
     fault: FirstFault,
 ) -> Result<Explanation, Memory>

@@ -1,14 +1,13 @@
 //! The answer to a journal on an accepted program.
 ghost use Rattle.std.specs.Prelude.{◌≡◌, ◌≤◌, ◌<◌, ◌+◌, ℕ, IfOk, IsErrOf, length};
-ghost use Rattle.seg_journal.specs.Spelling.{Spells, head_lines};
-ghost use Rattle.twe_machine.specs.declared.ending.Outcome.TheVariants as outcomes;
-ghost use Rattle.twe_machine.specs.declared.legal.Why.{Why as AnyWhy};
-ghost use Rattle.twe_machine.specs.declared.replaying.ReplayFail.TheVariants.{Illegal};
-ghost use Rattle.twe_machine.specs.Replays.{IsFirstIllegal};
-ghost use Rattle.twe_machine.specs.Runs.{IsOutcome, IsRun};
+ghost use Rattle.seg_journal.specs.Spelling.{Spells};
+ghost use Rattle.machine_state.specs.declared.ending.Outcome.TheVariants as outcomes;
+ghost use Rattle.machine_state.specs.declared.why.Why.{Why as AnyWhy};
+ghost use Rattle.machine_state.specs.declared.replay_fail.ReplayFail.TheVariants.{Illegal};
+ghost use Rattle.machine_state.specs.Replays.{IsFirstIllegal};
+ghost use Rattle.machine_state.specs.Runs.{IsOutcome, IsRun};
 ghost use Rattle.twe_report.specs.Texts as texts;
 ghost use Rattle.twe_io.specs.Answers.{on_out};
-ghost use Rattle.twe_io.specs.declared.status.Status.TheVariants.{Done};
 ghost use Rattle.text_answers.specs.Answers.{default_limits, limits_with};
 ghost use Rattle.run_notes.specs.Journals.{JournalTold, MovesTold, RunTold};
 
@@ -20,16 +19,16 @@ use crate::trees::tree_if_any;
 use crate::variables_shown::items_of;
 use explain_pages::{Wanted, text_of_run};
 use flat_sched::stuck_cycle;
-use run_causes::{makings_of, next_moves, snapshot_of_fault};
+use machine_state::{FirstFault, Outcome, ReplayFail, State, Why};
+use run_facts::{makings_of, next_moves, snapshot_of_fault};
 use seg_journal::{Journal, JournalFail, JournalText, Limits, Move, read_journal};
 use std::alloc::Global;
+use text_answers::{answer_done, line_of};
 use twe_base::Memory;
 use twe_io::{Answer, Status};
-use twe_machine::{FirstFault, Outcome, ReplayFail, State, Why, outcome, replay_journal};
+use twe_machine::{outcome, replay_journal};
 use twe_program::Prog;
-use twe_report::{
-    fault_text, not_a_move_text, not_legal_text, result_text, stuck_text, unfinished_text,
-};
+use twe_report::{fault_text, not_a_move_text, not_legal_text, stuck_text, unfinished_text};
 
 /// The answer to a journal on the program of a text.
 pub fn answer_journal(
@@ -95,18 +94,9 @@ fn answer_illegal(
 {
     let _ = journal;
     let moves = found.moves.as_slice();
-    let line = not_legal_text(alloc, journal_line(found.head, n, moves))?;
+    let line = not_legal_text(alloc, line_of(found.head, n, moves))?;
     let page = illegal_page(alloc, wanted, text, p, lim, moves, n, why, line)?;
     Ok(Answer::on_out(alloc, Status::BadJournal, page))
-}
-
-/// The line of move `n` in a journal with these moves, both counted from 1.
-fn journal_line(head: Option<Limits>, n: u64, moves: &[Move]) -> u64
-    requires { n ≤ length moves.now }
-    ensures { result ≡ length (head_lines head) + n }
-{
-    let _lines = moves.len() + 1;
-    if head.is_some() { n + 1 } else { n }
 }
 
 /// The answer to moves, or the number of the first that is not legal, counted from 1.
@@ -152,13 +142,6 @@ pub fn tell_run(
         Outcome::Stuck => answer_stuck(alloc, wanted, text, p, lim, journal, st),
         Outcome::Unfinished => answer_unfinished(alloc, wanted, text, p, st, journal, lim),
     }
-}
-
-/// The answer to a run in which all tasks are done.
-fn answer_done(alloc: Global, p: &Prog, st: &State) -> Result<Answer, Memory>
-    ensures { IfOk result (λ answer. answer ≡ on_out Done (texts.result_text p.now st.now)) }
-{
-    Ok(Answer::on_out(alloc, Status::Done, result_text(alloc, p, st)?))
 }
 
 /// The answer to a run in which this fault came first.

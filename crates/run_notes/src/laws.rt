@@ -7,7 +7,7 @@ ghost use Rattle.twe_ast.specs.declared.item.Decl as written;
 ghost use Rattle.twe_program.specs.declared.program.Decl.{Decl};
 ghost use Rattle.name_check.specs.declared.names.GlobalName.{GlobalName};
 ghost use Rattle.twe_names.specs.Meaning.{decl_of, program_of};
-ghost use Rattle.name_notes.specs.Variables.{variables_of};
+ghost use Rattle.explain_pages.specs.names.Variables.{variables_of};
 ghost use Rattle.run_notes.specs.BodyVariables.{body_variables_of};
 ghost use Rattle.run_notes.specs.FoundVariables.{FindsNames, all_declared};
 ghost use Rattle.run_notes.specs.VariableNumbers.{NamesVariables, variable_names};

@@ -1,19 +1,18 @@
 //! What is said of a run that goes on.
 ghost use Rattle.std.specs.Prelude.{◌≡◌, ◌++◌, IfOk, OnOk, slice_get};
 ghost use Rattle.std.specs.List.{flat_map};
-ghost use Rattle.seg_journal.specs.Spelling.{kind_word};
 ghost use Rattle.run_notes.specs.NextShown.{move_shown, next_caption, next_explanation, next_notes, next_notes_at, next_remarks, next_words, place_or};
 
 use crate::faulted::{one_remark, push_note_if};
 use crate::task_texts::push_task;
 use crate::waits::origin_of;
+use explain_pages::{Explanation, Note};
 use itoa::Buffer;
-use place_notes::{Explanation, Note};
-use run_causes::{Making, place_of};
-use seg_journal::{Kind, Move};
+use machine_state::State;
+use run_facts::{TaskMaking, place_of};
+use seg_journal::{Kind, Move, word_of};
 use std::alloc::Global;
 use twe_base::{Bytes, List, Memory, Place};
-use twe_machine::State;
 use twe_program::Prog;
 
 /// The most legal moves that are shown.
@@ -27,16 +26,6 @@ fn next_words(kind: Kind, stands: Option<Place>) -> &'static [u8]
         (Kind::Admit, _) => b" comes from here, and may be admitted: ",
         (Kind::Run, None) => b" comes from here, and may begin: ",
         (Kind::Run, Some(_)) => b" has come to here, and may go on: ",
-    }
-}
-
-/// The word of a kind of move, with the blank that follows it.
-fn word_of(kind: Kind) -> &'static [u8]
-    ensures { result.now ≡ kind_word kind }
-{
-    match kind {
-        Kind::Admit => b"admit ",
-        Kind::Run => b"run ",
     }
 }
 
@@ -83,7 +72,7 @@ fn push_next_notes_at(
     alloc: Global,
     p: &Prog,
     st: &State,
-    makings: &[Making],
+    makings: &[TaskMaking],
     mv: Move,
     stands: Option<Place>,
 ) -> Result<(), Memory>
@@ -103,7 +92,7 @@ fn push_next_notes(
     alloc: Global,
     p: &Prog,
     st: &State,
-    makings: &[Making],
+    makings: &[TaskMaking],
     mv: Move,
 ) -> Result<(), Memory>
     ensures { OnOk result (notes.new ≡ notes.old ++ next_notes p.now st.now makings.now mv) }
@@ -118,7 +107,7 @@ fn moves_notes(
     p: &Prog,
     st: &State,
     moves: &[Move],
-    makings: &[Making],
+    makings: &[TaskMaking],
 ) -> Result<List<Note>, Memory>
     ensures { IfOk result (λ notes. notes ≡ flat_map (next_notes p.now st.now makings.now) moves.now) }
 {
@@ -146,7 +135,7 @@ pub(crate) fn next_explanation(
     alloc: Global,
     p: &Prog,
     st: &State,
-    makings: &[Making],
+    makings: &[TaskMaking],
     moves: &[Move],
 ) -> Result<Explanation, Memory>
     ensures { IfOk result (λ e. e ≡ next_explanation p.now st.now makings.now moves.now) }

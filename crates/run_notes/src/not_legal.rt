@@ -1,24 +1,24 @@
 //! What is said of a move that is not legal.
 ghost use Rattle.std.specs.Prelude.{◌≡◌, ◌++◌, ◌-◌, ◌≤◌, ◌<◌, IfOk, OnOk, Some, length, option_copied, slice_get, take};
 ghost use Rattle.seg_journal.specs.declared.moves.Move.{Move as AnyMove};
-ghost use Rattle.twe_machine.specs.declared.legal.Why.TheVariants.{NoTask};
-ghost use Rattle.twe_machine.specs.Replays.{IsFirstIllegal};
-ghost use Rattle.twe_machine.specs.Runs.{IsRun};
-ghost use Rattle.run_causes.specs.Makings.{makings_of};
+ghost use Rattle.machine_state.specs.declared.why.Why.TheVariants.{NoTask};
+ghost use Rattle.machine_state.specs.Replays.{IsFirstIllegal};
+ghost use Rattle.machine_state.specs.Runs.{IsRun};
+ghost use Rattle.run_facts.specs.Makings.{makings_of};
 ghost use Rattle.run_notes.specs.NotLegal.{IllegalTold, forbidden_explanation, forbidden_headline, forbidden_notes, forbidden_remark, status_caption, status_notes, status_of_row, status_words};
 ghost use Rattle.explain_pages.specs.RunPage.{run_text};
 
 use crate::faulted::{one_remark, push_note_if};
 use crate::task_texts::push_task;
 use crate::waits::{held_rule, origin_of, push_held_notes, push_wait_notes};
-use explain_pages::{Wanted, text_of_run};
+use explain_pages::{Explanation, Note, Wanted, text_of_run};
 use itoa::Buffer;
-use place_notes::{Explanation, Note};
-use run_causes::{Making, makings_of};
+use machine_state::{ReplayFail, State, TaskRow, TaskStatus, Why};
+use run_facts::{TaskMaking, makings_of};
 use seg_journal::{Journal, Limits, Move};
 use std::alloc::Global;
 use twe_base::{Bytes, List, Memory};
-use twe_machine::{ReplayFail, State, TaskRow, TaskStatus, Why, replay_journal};
+use twe_machine::replay_journal;
 use twe_program::Prog;
 
 /// Why a move is not legal.
@@ -72,7 +72,7 @@ fn push_status_notes(
     alloc: Global,
     p: &Prog,
     st: &State,
-    makings: &[Making],
+    makings: &[TaskMaking],
     task: u32,
 ) -> Result<(), Memory>
     ensures { OnOk result (notes.new ≡ notes.old ++ status_notes p.now st.now makings.now task) }
@@ -87,7 +87,7 @@ fn push_forbidden_notes(
     alloc: Global,
     p: &Prog,
     st: &State,
-    makings: &[Making],
+    makings: &[TaskMaking],
     task: u32,
     why: Why,
 ) -> Result<(), Memory>
@@ -141,7 +141,7 @@ fn forbidden_notes(
     alloc: Global,
     p: &Prog,
     st: &State,
-    makings: &[Making],
+    makings: &[TaskMaking],
     task: u32,
     why: Why,
 ) -> Result<List<Note>, Memory>
@@ -157,7 +157,7 @@ fn forbidden_explanation(
     alloc: Global,
     p: &Prog,
     st: &State,
-    makings: &[Making],
+    makings: &[TaskMaking],
     task: u32,
     why: Why,
 ) -> Result<Explanation, Memory>

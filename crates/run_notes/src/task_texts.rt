@@ -3,9 +3,9 @@ ghost use Rattle.std.specs.Prelude.{◌≡◌, ◌++◌, OnOk, option_copied};
 ghost use Rattle.run_notes.specs.TaskTexts.{call_shown, shown_if_found, task_shown};
 
 use itoa::Buffer;
+use machine_state::{State, TaskRow};
 use run_texts::{push_listed_args, task_name};
 use twe_base::{Bytes, Memory};
-use twe_machine::{State, TaskRow};
 use twe_program::Prog;
 
 /// Appends a task's name and its arguments, between accents.

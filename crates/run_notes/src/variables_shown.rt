@@ -1,15 +1,16 @@
 //! The values of the variables that were in scope at a fault.
 ghost use Rattle.std.specs.Prelude.{◌≡◌, ◌-◌, ◌++◌, IfOk, OnOk, drop, length, option_copied};
-ghost use Rattle.seg_exec.specs.Arithmetic.{is_true};
+ghost use Rattle.seg_meaning.specs.Arithmetic.{is_true};
 ghost use Rattle.run_notes.specs.VariablesShown.{active_decl, at_fault_remarks, at_fault_text, decl_of_row, items_of, later_texts, listed_texts, more_words, most_variables, snapshot_remarks, shown_in_scope, truth_text, variable_shown, variable_value, variables_of_decl, variables_shown};
 
 use crate::body_variables::{BodyVariable, body_variables_at};
 use itoa::Buffer;
-use seg_exec::{ActiveCall, FaultSnapshot};
+use machine_state::TaskRow;
+use seg_exec::FaultSnapshot;
+use seg_meaning::ActiveCall;
 use std::alloc::Global;
 use twe_ast::{Ast, Item};
 use twe_base::{Bytes, List, Memory, Place};
-use twe_machine::TaskRow;
 use twe_program::{Decl, Prog};
 
 /// Of how many variables the values are shown at most.

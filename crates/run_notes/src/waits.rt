@@ -1,18 +1,18 @@
 //! What is said of a task that waits for another, and of one that is held by another.
 ghost use Rattle.std.specs.Prelude.{◌≡◌, ◌++◌, IfOk, OnOk, option_copied, slice_get};
-ghost use Rattle.run_causes.specs.Makings.{place_of_row};
+ghost use Rattle.run_facts.specs.Makings.{place_of_row};
 ghost use Rattle.run_notes.specs.Waits.{clashing_with, declared_at_row, effect_shown, held_caption, held_effect, held_notes, held_rule, holder_caption, holding_effect, origin_of, place_if_made, place_of_decl, wait_caption, wait_notes};
 
 use crate::faulted::push_note_if;
 use crate::task_texts::push_task;
 use effect_sets::Effect;
-use place_notes::Note;
-use run_causes::{Making, effects_of_task, first_clashing, making_of, place_of};
+use explain_pages::Note;
+use machine_state::State;
+use run_facts::{TaskMaking, effects_of_task, first_clashing, making_of, place_of};
 use std::alloc::Global;
 use std::slice;
-use text_meaning::push_effect;
 use twe_base::{Bytes, List, Memory, Place};
-use twe_machine::State;
+use twe_frontend::push_effect;
 use twe_program::{Decl, Prog};
 
 /// When a task is no longer held.
@@ -69,7 +69,7 @@ fn declared_at(p: &Prog, st: &State, task: u32) -> Option<Place>
 }
 
 /// The place where a task was made, or if it was made by none, that of its declaration.
-fn place_if_made(p: &Prog, st: &State, task: u32, making: Option<Making>) -> Option<Place>
+fn place_if_made(p: &Prog, st: &State, task: u32, making: Option<TaskMaking>) -> Option<Place>
     ensures { result ≡ place_if_made p.now st.now task making }
 {
     match making {
@@ -79,7 +79,7 @@ fn place_if_made(p: &Prog, st: &State, task: u32, making: Option<Making>) -> Opt
 }
 
 /// The place from which a task comes.
-pub(crate) fn origin_of(p: &Prog, st: &State, makings: &[Making], task: u32) -> Option<Place>
+pub(crate) fn origin_of(p: &Prog, st: &State, makings: &[TaskMaking], task: u32) -> Option<Place>
     ensures { result ≡ origin_of p.now st.now makings.now task }
 {
     place_if_made(p, st, task, making_of(makings, task))
@@ -172,7 +172,7 @@ pub(crate) fn push_held_notes(
     alloc: Global,
     p: &Prog,
     st: &State,
-    makings: &[Making],
+    makings: &[TaskMaking],
     task: u32,
     holder: u32,
 ) -> Result<(), Memory>

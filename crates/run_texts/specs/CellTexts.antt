@@ -5,7 +5,7 @@ use Rattle.std.specs.List.{flat_map}
 use Rattle.region_paths.specs.Concrete.{ConcreteElem, ConcretePath, region, number}
 use Rattle.twe_program.specs.Program.{Program}
 use Rattle.isolation_laws.specs.soundness.CellPaths.{path_of_cell}
-use Rattle.text_meaning.specs.PathTexts.{in_brackets, name_at_number}
+use Rattle.twe_frontend.specs.meaning.PathTexts.{in_brackets, name_at_number}
 
 -- a region by its name, and an index in brackets
 abbrev pub path_part_text : List (List ℕ) → ConcreteElem → List ℕ

@@ -4,7 +4,7 @@ ghost use Rattle.std.specs.Prelude.{◌≡◌, ◌++◌, ◌-◌, ◌+◌, ◌/�
 ghost use Rattle.isolation_laws.specs.soundness.CellPaths.{concrete, indexes_at, path_among, path_within};
 ghost use Rattle.region_paths.specs.Concrete.{number};
 ghost use Rattle.run_texts.specs.CellTexts.{cell_text, concrete_text, first_part, more_parts, next_part, path_part_text};
-ghost use Rattle.text_meaning.specs.PathTexts.{in_brackets, name_at_number};
+ghost use Rattle.twe_frontend.specs.meaning.PathTexts.{in_brackets, name_at_number};
 ghost use Rattle.twe_program.specs.Program.{size_of};
 
 use itoa::Buffer;

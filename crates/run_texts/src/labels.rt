@@ -3,8 +3,8 @@ ghost use Rattle.std.specs.Prelude.{◌≡◌, ◌++◌, OnOk, slice_get};
 ghost use Rattle.run_texts.specs.TaskLabels.{decl_name, decl_place_text, later_args, listed_args, numbered_call, place_words, task_call};
 
 use itoa::Buffer;
+use machine_state::TaskRow;
 use twe_base::{Bytes, Memory, Place};
-use twe_machine::TaskRow;
 use twe_program::Prog;
 
 /// Appends arguments, each after `, `.

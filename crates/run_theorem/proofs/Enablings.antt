@@ -6,15 +6,15 @@ use Rattle.std.proofs.lemmas.List.Sums.{sum_by-cons}
 use Rattle.seg_journal.specs.declared.journal.Entry.{Entry}
 use Rattle.twe_base.specs.Limits.{Bounds}
 use Rattle.twe_program.specs.Program.{Program}
-use Rattle.twe_machine.specs.declared.state.State.{State}
-use Rattle.twe_machine.specs.declared.state.TaskRow.{TaskRow}
-use Rattle.twe_machine.specs.declared.state.TaskStatus.{TaskStatus}
-use Rattle.twe_machine.specs.Runs.{AllTasksDone, admits, makes}
-use Rattle.twe_machine.proofs.counts.JournalCounts.{Counts, times_made, times_admitted, times_admitted_at, times_finished}
-use Rattle.twe_machine.proofs.counts.Once.{at_most_once, not_past, once}
-use Rattle.twe_machine.proofs.lists.RowNumbers.{number_at}
-use Rattle.twe_machine.proofs.standing.Standing.{Stands}
-use Rattle.run_theorem.specs.Journals.{EachTaskAtMostOnce, EachTaskOnce, NothingHappened, enables, is_spawned_row}
+use Rattle.machine_state.specs.declared.state.State.{State}
+use Rattle.machine_state.specs.declared.state.TaskRow.{TaskRow}
+use Rattle.machine_state.specs.declared.state.TaskStatus.{TaskStatus}
+use Rattle.machine_state.specs.Runs.{AllTasksDone, admits, makes}
+use Rattle.machine_state.proofs.counts.JournalCounts.{Counts, times_made, times_admitted, times_admitted_at, times_finished}
+use Rattle.machine_state.proofs.counts.Once.{at_most_once, not_past, once}
+use Rattle.machine_state.proofs.lists.RowNumbers.{number_at}
+use Rattle.machine_state.proofs.standing.Standing.{Stands}
+use Rattle.run_theorem.specs.Journals.{EachEnabledAtMostOnce, EachEnabledOnce, NothingHappened, enables, is_spawned_row}
 
 -- Counts of entries that meet one of two conditions.
 
@@ -96,7 +96,7 @@ module _ (journal : List Entry) (st : State) (counts : Counts journal st) where
         not_finished = counts.finished t ∙ ap (number_at times_finished) none;
       }
 
-  pub tasks_at_most_once : EachTaskAtMostOnce journal st
+  pub tasks_at_most_once : EachEnabledAtMostOnce journal st
   tasks_at_most_once =
       let each = at_most_once journal st counts in
       record {
@@ -117,7 +117,7 @@ module _ (journal : List Entry) (st : State) (counts : Counts journal st) where
         ∙ picked_one (is_some row.parent) (count_by (makes t) journal) (count_by (admits t) journal)
         (λ spawned. each.made t (above_zero row.parent t (stands.rows t row there).parent spawned) below) (each.enabled t row there))
 
-    pub tasks_once : EachTaskOnce journal st
+    pub tasks_once : EachEnabledOnce journal st
     tasks_once =
         let each = once journal st counts all in
         record {

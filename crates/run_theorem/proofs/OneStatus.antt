@@ -5,12 +5,12 @@ use Rattle.twe_base.specs.Limits.{Bounds}
 use Rattle.twe_program.specs.Program.{Program}
 use Rattle.twe_frontend.specs.declared.refusal.Refusal.{Refusal}
 use Rattle.twe_frontend.specs.Accepted.{Accepted, IsRefusal}
-use Rattle.twe_machine.specs.declared.ending.Outcome.{Outcome}
-use Rattle.twe_machine.specs.declared.ending.Outcome.TheVariants as outcomes
-use Rattle.twe_machine.specs.declared.state.FirstFault.{FirstFault}
-use Rattle.twe_machine.specs.declared.state.State.{State}
-use Rattle.twe_machine.specs.LowestFirst.{IsOver}
-use Rattle.twe_machine.specs.Runs.{IsOutcome, Legal, counted, state_after}
+use Rattle.machine_state.specs.declared.ending.Outcome.{Outcome}
+use Rattle.machine_state.specs.declared.ending.Outcome.TheVariants as outcomes
+use Rattle.machine_state.specs.declared.state.FirstFault.{FirstFault}
+use Rattle.machine_state.specs.declared.state.State.{State}
+use Rattle.machine_state.specs.LowestFirst.{IsOver}
+use Rattle.machine_state.specs.Runs.{IsOutcome, Legal, counted, state_after}
 use Rattle.determinism_laws.specs.Endings.{HasMetFault, HaveEndedAlike}
 use Rattle.command_line.specs.declared.command.Command.TheVariants.{Run}
 use Rattle.twe_io.specs.declared.answer.Answer.{Answer}

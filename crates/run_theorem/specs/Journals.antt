@@ -3,10 +3,9 @@ use Rattle.std.specs.Prelude.{◌≡◌, ◌≤◌, ◌<◌, ◌&&◌, ◌||◌,
 use Rattle.seg_journal.specs.declared.journal.Entry.{Entry}
 use Rattle.twe_base.specs.Limits.{Bounds}
 use Rattle.twe_program.specs.Program.{Program}
-use Rattle.twe_machine.specs.declared.state.State.{State}
-use Rattle.twe_machine.specs.declared.state.TaskRow.{TaskRow}
-use Rattle.twe_machine.specs.Runs.{admits, finishes, makes, state_after}
-use Rattle.isolation_laws.specs.Conflicts.{MoversApart}
+use Rattle.machine_state.specs.declared.state.State.{State}
+use Rattle.machine_state.specs.declared.state.TaskRow.{TaskRow}
+use Rattle.machine_state.specs.Runs.{admits, finishes, makes, state_after}
 use Rattle.isolation_laws.specs.Rows.{RowsKeepToDeclarations}
 
 -- Effects.
@@ -16,10 +15,6 @@ use Rattle.isolation_laws.specs.Rows.{RowsKeepToDeclarations}
 abbrev pub AlwaysDeclared : Program → Bounds → List Entry → Type 0
 AlwaysDeclared p lim journal =
     (n : ℕ) → n ≤ length journal → RowsKeepToDeclarations p (state_after p lim (take n journal))
-
--- after each beginning of the journal, no accesses of two tasks that may run conflict
-abbrev pub AlwaysApart : Program → Bounds → List Entry → Type 0
-AlwaysApart p lim journal = (n : ℕ) → n ≤ length journal → MoversApart p (state_after p lim (take n journal))
 
 -- How often each task was made, enabled and finished.
 
@@ -40,7 +35,7 @@ pub record NothingHappened (journal : List Entry) (st : State) (t : ℕ) : Type 
 
 -- In the journal that led to this state, each task was made, enabled and finished at most once. Task 0 is there from the
 -- start, so no entry made it. Nothing happened to a task that is not there.
-pub record EachTaskAtMostOnce (journal : List Entry) (st : State) : Type 0 where
+pub record EachEnabledAtMostOnce (journal : List Entry) (st : State) : Type 0 where
   pub made : (t : ℕ) → count_by (makes t) journal ≤ 1
   pub enabled : (t : ℕ) → count_by (enables st t) journal ≤ 1
   pub finished : (t : ℕ) → count_by (finishes t) journal ≤ 1
@@ -49,7 +44,7 @@ pub record EachTaskAtMostOnce (journal : List Entry) (st : State) : Type 0 where
 
 -- In the journal that led to this state, each task was enabled and finished exactly once, and each but task 0 was made
 -- exactly once. Task 0 is there from the start, so no entry made it. Nothing happened to a task that is not there.
-pub record EachTaskOnce (journal : List Entry) (st : State) : Type 0 where
+pub record EachEnabledOnce (journal : List Entry) (st : State) : Type 0 where
   pub made : (t : ℕ) → 0 < t → t < length st.tasks → count_by (makes t) journal ≡ 1
   pub enabled : (t : ℕ) → t < length st.tasks → count_by (enables st t) journal ≡ 1
   pub finished : (t : ℕ) → t < length st.tasks → count_by (finishes t) journal ≡ 1

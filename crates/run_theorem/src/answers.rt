@@ -7,8 +7,10 @@ ghost use Rattle.twe_frontend.specs.Accepted.{Accepted};
 ghost use Rattle.determinism_laws.specs.results.Main.{MainIsDeterministic};
 ghost use Rattle.command_line.specs.declared.command.Command.TheVariants.{Run};
 ghost use Rattle.twe_io.specs.declared.answer.Answer.{Answer};
-ghost use Rattle.text_answers.specs.Answers.{IsAnswerTo};
+ghost use Rattle.text_answers.specs.Answers.{Due, IsAnswerTo};
+ghost use Rattle.text_answers.specs.declared.book.Book.{Book};
 ghost use Rattle.twe_io.specs.declared.status.Status.TheVariants.{Done};
+ghost use Rattle.run_theorem.specs.Answers.{SameButForJournals};
 
 use crate::accepted::accepted_programs_are_well_formed;
 use determinism_laws::ended_runs_end_as_the_execution;
@@ -31,10 +33,15 @@ pub fn deterministic_mains_have_one_status()
 }
 
 /// If `main` of an accepted text is deterministic, the answer to its run does not depend on the number of workers, or on which
-/// worker did what: if one run of the text that was not asked for its journal ends with status 0, then each other one under the
-/// same limits has the same answer, byte for byte, and so the same status.
+/// worker did what: if one run of the text ends with status 0, then each other one under the same limits has the same answer,
+/// byte for byte, but for the journals that were asked for. If neither was asked for its journal, the answers are the same.
 pub fn deterministic_mains_have_one_answer()
-    ensures { (text : List ℕ) (p : Program) (workers crew : ℕ) (lim : Bounds) (answer other : Answer)
+    ensures but_for_journals { (text : List ℕ) (p : Program) (workers crew : ℕ) (lim : Bounds) (asked also : Bool)
+        (book second : Book) (answer other : Answer)
+        → length text ≤ max_text_bytes → Accepted text p → MainIsDeterministic p → IsWithin lim.fuel lim.tasks
+        → Due (Run workers lim asked) text book answer → answer.status ≡ Done → Due (Run crew lim also) text second other
+        → SameButForJournals lim asked also book.journal second.journal answer other }
+    ensures without { (text : List ℕ) (p : Program) (workers crew : ℕ) (lim : Bounds) (answer other : Answer)
         → length text ≤ max_text_bytes → Accepted text p → MainIsDeterministic p → IsWithin lim.fuel lim.tasks
         → IsAnswerTo (Run workers lim false) text answer → answer.status ≡ Done
         → IsAnswerTo (Run crew lim false) text other → answer ≡ other }

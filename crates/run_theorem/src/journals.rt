@@ -4,9 +4,10 @@ ghost use Rattle.seg_journal.specs.declared.journal.Entry.{Entry};
 ghost use Rattle.twe_base.specs.Limits.{Bounds};
 ghost use Rattle.twe_program.specs.Program.{Program};
 ghost use Rattle.twe_program.specs.WellFormed.{IsWellFormed};
-ghost use Rattle.twe_machine.specs.Runs.{AllTasksDone, Legal, state_after};
+ghost use Rattle.machine_state.specs.Runs.{AllTasksDone, Legal, state_after};
 ghost use Rattle.determinism_laws.specs.AcceptedRuns.{IsAcceptedRun};
-ghost use Rattle.run_theorem.specs.Journals.{AlwaysApart, AlwaysDeclared, EachTaskAtMostOnce, EachTaskOnce};
+ghost use Rattle.run_laws.specs.SafeRuns.{MoversAlwaysApart};
+ghost use Rattle.run_theorem.specs.Journals.{AlwaysDeclared, EachEnabledAtMostOnce, EachEnabledOnce};
 
 use isolation_laws::{
     beginnings_of_legal_journals_are_legal, tasks_keep_to_their_declarations,
@@ -20,7 +21,7 @@ pub fn tasks_keep_apart_throughout()
     ensures declared { (p : Program) (lim : Bounds) (journal : List Entry) → IsAcceptedRun p lim journal
         → AlwaysDeclared p lim journal }
     ensures apart { (p : Program) (lim : Bounds) (journal : List Entry) → IsAcceptedRun p lim journal
-        → AlwaysApart p lim journal }
+        → MoversAlwaysApart p lim journal }
 {
     beginnings_of_legal_journals_are_legal();
     tasks_keep_to_their_declarations();
@@ -32,7 +33,7 @@ pub fn tasks_keep_apart_throughout()
 /// it is task 0. A spawned task is enabled by the entry that makes it, and any other task by its admission.
 pub fn each_task_is_enabled_once()
     ensures at_most_once { (p : Program) (lim : Bounds) (journal : List Entry) → IsWellFormed p → Legal p lim journal
-        → EachTaskAtMostOnce journal (state_after p lim journal) }
+        → EachEnabledAtMostOnce journal (state_after p lim journal) }
     ensures once { (p : Program) (lim : Bounds) (journal : List Entry) → IsWellFormed p → Legal p lim journal
-        → AllTasksDone (state_after p lim journal) → EachTaskOnce journal (state_after p lim journal) }
+        → AllTasksDone (state_after p lim journal) → EachEnabledOnce journal (state_after p lim journal) }
 {}

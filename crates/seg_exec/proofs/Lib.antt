@@ -1,9 +1,3 @@
-pub mod Accesses
-pub mod CellNumbers
-pub mod Determined
-pub mod PlainLists
-pub mod Remains
-pub mod Rooms
-pub mod SnapshotsMet
+pub mod FinishedRooms
 pub mod Segments
-pub mod Without
+pub mod SnapshotsMet

@@ -1,22 +1,22 @@
 -- A run of the evaluator that begins with what remains in a frame is the segment of that frame.
-use Rattle.std.proofs.Common.{◌≡◌, ℕ, ◌+◌, ℤ, pos, List, [], ◌++◌, Some, Result, Ok, Err, IfOk, refl, sym, ap, ◌∙◌, subst, arith, Option, None}
+use Rattle.std.proofs.Common.{◌≡◌, ℕ, ◌+◌, ℤ, pos, List, [], ◌++◌, Some, refl, sym, ap, ◌∙◌, subst, arith, Option, None}
 use Rattle.std.specs.Prelude.{slice_get}
 use Rattle.twe_program.specs.Program.{Program}
-use Rattle.seg_exec.specs.declared.frame.OpenBody.{OpenBody}
-use Rattle.seg_exec.specs.declared.frame.Frame.{Frame}
-use Rattle.seg_exec.specs.declared.frame.Next.{Next}
-use Rattle.seg_exec.specs.declared.operation.Operation.{Operation}
-use Rattle.seg_exec.specs.declared.operation.Operation.TheVariants as operations
+use Rattle.seg_meaning.specs.declared.frame.OpenBody.{OpenBody}
+use Rattle.seg_meaning.specs.declared.frame.Frame.{Frame}
+use Rattle.seg_meaning.specs.declared.frame.Next.{Next}
+use Rattle.seg_meaning.specs.declared.operation.Operation.{Operation}
+use Rattle.seg_meaning.specs.declared.operation.Operation.TheVariants as operations
 use Rattle.seg_exec.specs.declared.steps.machine.Machine.{Machine}
-use Rattle.seg_exec.specs.declared.stop.Stop.{Stop}
+use Rattle.seg_meaning.specs.declared.stop.Stop.{Stop}
 use Rattle.seg_exec.specs.declared.steps.request.Ending.{Ending}
 use Rattle.seg_exec.specs.declared.steps.request.Ending.TheVariants.{Returned, Faulted, Suspended}
 use Rattle.seg_exec.specs.inner.steps.Endings.{suspended_at}
-use Rattle.seg_exec.specs.Access.{MayAll, Ways, after, printed}
-use Rattle.seg_exec.specs.Meaning.{body_of, done_within}
-use Rattle.seg_exec.specs.Remaining.{resumed}
-use Rattle.seg_exec.specs.Segment.{Stopped, stopped_by, store_at, flow_of, operation_next, operation_out, operation_stop, CarriesOut, MayCarryOut}
-use Rattle.seg_exec.specs.Store.{Store, Flow, goes, returns, fails, stops}
+use Rattle.seg_meaning.specs.Access.{MayAll, Ways, after, printed}
+use Rattle.seg_meaning.specs.Meaning.{body_of, done_within}
+use Rattle.seg_meaning.specs.Remaining.{resumed}
+use Rattle.seg_meaning.specs.Segment.{Stopped, stopped_by, store_at, flow_of, operation_next, operation_out, operation_stop, CarriesOut, MayCarryOut}
+use Rattle.seg_meaning.specs.Store.{Store, Flow, goes, returns, fails, stops}
 use Rattle.seg_exec.specs.inner.Finished.{finished}
 use Rattle.seg_exec.specs.inner.steps.Reached.{Finishes, MayGoOn, over, standing}
 use Rattle.seg_exec.specs.inner.steps.Runs.{Moment, Over, moment, run, store_of}
@@ -38,7 +38,7 @@ module _ (p : Program) where
   ran frame prints fuel = record frame { prints = prints; fuel = fuel }
 
   -- what a run that ends so leaves
-  abbrev pub left : Frame → Ending → Store → Stopped
+  abbrev left : Frame → Ending → Store → Stopped
   left frame ending s =
       let done = finished p (ran frame (frame.prints ++ printed s.accesses) s.fuel) s.vars ending in
       record { frame = done.0; cells = s.cells; accesses = s.accesses; stop = done.1 }
@@ -71,7 +71,7 @@ module _ (p : Program) where
       let meets = resumed_meets p n (done_within p n) (within_meets p n) opened.open_blocks body frame.fuel (omega arith) store (omega arith) [] [] in
       subst (λ (c : Config). (k : ℕ) × (run p k (over c cells []) ≡ outcome_of p flow)) same (ends_so p frame.fuel (over begun cells []) flow meets)
 
-  pub segment_so : (frame : Frame) (opened : Option OpenBody) (start : Config) (cells : List ℤ) (ending : Ending) (s : Store) → config_at p frame opened ≡ Some start
+  segment_so : (frame : Frame) (opened : Option OpenBody) (start : Config) (cells : List ℤ) (ending : Ending) (s : Store) → config_at p frame opened ≡ Some start
       → (n : ℕ) × (run p n (over start cells []) ≡ Over ending s) → stopped_by p frame (flow_of p frame opened cells) ≡ left frame ending s
   segment_so frame opened start cells ending s is ends =
       let flow = flow_of p frame opened cells in
@@ -134,7 +134,3 @@ module _ (p : Program) where
         → MayGoOn p ways (standing from cells prints)
     may_run frame from cells prints may is list =
         may_end frame cells (over (config_of from) list []) (flow_of p frame frame.body list) (may list) (flow_so frame frame.body (config_of from) list is)
-
-pub if_ok_map : {T E : Type 0} {P Q : T → Type 0} (r : Result T E) → ((x : T) → P x → Q x) → IfOk r P → IfOk r Q
-if_ok_map (Ok x) so holds = so x holds
-if_ok_map (Err fail) so holds = tt

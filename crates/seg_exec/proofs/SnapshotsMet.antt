@@ -1,14 +1,14 @@
 -- How a segment met its fault, by a run of the evaluator over a list of cells.
 use Rattle.std.proofs.Common.{◌≡◌, ℤ, pos, List, [], Some, sym, ap, ◌∙◌}
 use Rattle.twe_program.specs.Program.{Program}
-use Rattle.seg_exec.specs.declared.frame.Frame.{Frame}
+use Rattle.seg_meaning.specs.declared.frame.Frame.{Frame}
 use Rattle.seg_exec.specs.declared.steps.machine.Machine.{Machine}
 use Rattle.seg_exec.specs.declared.steps.request.Ending.{Ending}
 use Rattle.seg_exec.specs.declared.steps.request.Ending.TheVariants.{Returned, Faulted}
-use Rattle.seg_exec.specs.Plain.{list_ways}
+use Rattle.seg_meaning.specs.Plain.{list_ways}
 use Rattle.seg_exec.specs.Snapshots.{snapshot_of}
-use Rattle.seg_exec.specs.Segment.{flow_of}
-use Rattle.seg_exec.specs.Store.{Store, Flow, goes, returns, fails, stops}
+use Rattle.seg_meaning.specs.Segment.{flow_of}
+use Rattle.seg_meaning.specs.Store.{Store, Flow, goes, returns, fails, stops}
 use Rattle.seg_exec.specs.inner.Faulting.{snapshot_at}
 use Rattle.seg_exec.specs.inner.steps.Calls.{calls_of}
 use Rattle.seg_exec.specs.inner.steps.Endings.{suspended_at}
@@ -17,7 +17,7 @@ use Rattle.seg_exec.specs.inner.steps.Runs.{Over, store_of}
 use Rattle.seg_exec.specs.inner.steps.Unfolded.{config_at}
 use Rattle.seg_exec.specs.inner.steps.Views.{config_of}
 use Rattle.seg_exec.proofs.steps.Whole.{once, outcome_of}
-use Rattle.seg_exec.proofs.PlainLists.{list_follows}
+use Rattle.seg_meaning.proofs.PlainLists.{list_follows}
 use Rattle.seg_exec.proofs.Segments.{flow_so, is_over}
 
 module _ (p : Program) where

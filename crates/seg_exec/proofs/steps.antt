@@ -3,8 +3,8 @@
 -- The machine does what the meaning says, and so it does from what remains of a body.
 pub mod Simulation
 pub mod Whole
--- A bound above the fuel is never met.
-pub mod Bounds
+-- What remains of a body, as work of the machine.
+pub mod Unfolding
 -- Steps over cells of any kind.
 pub mod Witnesses
 pub mod Reaching

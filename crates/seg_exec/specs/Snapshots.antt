@@ -1,7 +1,7 @@
 -- How a segment met its fault.
 use Rattle.std.specs.Prelude.{Option, None, Some}
 use Rattle.seg_exec.specs.declared.snapshot.FaultSnapshot.{FaultSnapshot}
-use Rattle.seg_exec.specs.Store.{Flow, goes, returns, fails, stops}
+use Rattle.seg_meaning.specs.Store.{Flow, goes, returns, fails, stops}
 
 -- what was there when the rest of a body met a fault: what led to it, the variables of the active body, the active calls,
 -- the latest first, and the cells with what was written before; none if it met no fault

@@ -1,6 +1,6 @@
 //! The operators on 32-bit numbers. Truth values are the numbers 0 and 1.
 ghost use Rattle.std.specs.Prelude.{◌≡◌, ◌↔◌};
-ghost use Rattle.seg_exec.specs.Arithmetic.{decided, is_true, negation, negative, number_of, operated, quotient, remainder};
+ghost use Rattle.seg_meaning.specs.Arithmetic.{decided, is_true, negation, negative, number_of, operated, quotient, remainder};
 
 use twe_program::BinOp;
 

@@ -1,11 +1,11 @@
 //! The body of a declaration: its statements, and its variables at its start.
 ghost use Rattle.std.specs.Prelude.{◌≡◌, ◌++◌, pos, replicate, IfOk, OnOk, option_copied};
 ghost use Rattle.twe_program.specs.Statement.{statements_of};
-ghost use Rattle.seg_exec.specs.Meaning.{body_of, var_count_of, vars_at_start};
+ghost use Rattle.seg_meaning.specs.Meaning.{body_of, var_count_of, vars_at_start};
 ghost use Rattle.seg_exec.specs.inner.steps.Bodies.{with_active};
 
-use crate::short_list::ShortList;
 use crate::steps::variables::Variables;
+use seg_meaning::ShortList;
 use std::alloc::Global;
 use twe_base::Memory;
 use twe_program::{Decl, Stmt};

@@ -1,6 +1,6 @@
 //! The numbers of the cells that names with indexes denote.
 ghost use Rattle.std.specs.Prelude.{◌≡◌, ◌<◌, ◌≤◌, ◌+◌, IfSome};
-ghost use Rattle.seg_exec.specs.Cells.{cell_number, element_number, grid_element_number, in_grid, in_row, index_below};
+ghost use Rattle.seg_meaning.specs.Cells.{cell_number, element_number, grid_element_number, in_grid, in_row, index_below};
 ghost use Rattle.twe_program.specs.Program.{size_of};
 
 use twe_program::{Dims, Prog};

@@ -1,14 +1,12 @@
 //! The frame and the effects of a task before its first segment.
 ghost use Rattle.std.specs.Prelude.{◌≡◌, IfOk, map, option_copied};
 ghost use Rattle.region_paths.specs.declared.elements.Elem.TheVariants.{Index};
-ghost use Rattle.seg_exec.specs.Entry.{effects_at, entry_body, entry_frame, frame_of, future_count_of};
+ghost use Rattle.seg_meaning.specs.Entry.{effects_at, entry_body, entry_frame, frame_of, future_count_of};
 
 use crate::body::vars_at_start;
-use crate::children::Children;
-use crate::frame::{Frame, Next, OpenBody, Position};
-use crate::short_list::ShortList;
 use effect_sets::{Effects, Summary};
 use region_paths::Elem;
+use seg_meaning::{Children, Frame, Next, OpenBody, Position, ShortList};
 use std::alloc::{AllocError, Global};
 use twe_base::{Ints, List, Memory};
 use twe_program::{Decl, Prog};

@@ -1,28 +1,23 @@
 //! The execution of one segment of a task.
 ghost use Rattle.std.specs.Prelude.{◌≡◌, IfOk, OnOk, None, length, option_map, slice_get};
 ghost use Rattle.twe_program.specs.Program.{cell_count};
-ghost use Rattle.seg_exec.specs.Access.{ways_of};
-ghost use Rattle.seg_exec.specs.Segment.{CarriesOut, HasRoomToSpawn, IsSegment, MayCarryOut};
-ghost use Rattle.seg_exec.specs.Segment.{closing_stop, operation_next, operation_out, operation_stop, task_of};
+ghost use Rattle.seg_meaning.specs.Access.{ways_of};
+ghost use Rattle.seg_meaning.specs.Segment.{CarriesOut, HasRoomToSpawn, IsSegment, MayCarryOut};
+ghost use Rattle.seg_meaning.specs.Segment.{closing_stop, operation_next, operation_out, operation_stop, task_of};
 ghost use Rattle.seg_exec.specs.inner.Finished.{ended_with, finished};
 ghost use Rattle.seg_exec.specs.inner.steps.Unfolded.{body_config, config_at};
 ghost use Rattle.seg_exec.specs.inner.steps.Views.{config_of};
 
 use crate::body::statements;
-use crate::cells::Cells;
-use crate::children::Children;
 use crate::entry::{effects_at, frame_with};
-use crate::frame::{Frame, Next, OpenBody, Position};
-use crate::operation::Operation;
-use crate::short_list::ShortList;
 use crate::steps::continuation::{OpenBlock, Suspension};
 use crate::steps::frames::Frames;
 use crate::steps::machine::Machine;
 use crate::steps::pushdown::Pushdown;
 use crate::steps::request::Ending;
 use crate::steps::variables::Variables;
-use crate::stop::Stop;
 use crate::strides::run::run;
+use seg_meaning::{Cells, Children, Frame, Next, OpenBody, Operation, Position, ShortList, Stop};
 use std::alloc::Global;
 use twe_base::{Ints, List, Memory};
 use twe_program::Prog;

@@ -2,17 +2,15 @@
 ghost use Rattle.std.specs.Prelude.{◌≡◌, IfOk, length};
 ghost use Rattle.twe_program.specs.Program.{cell_count};
 ghost use Rattle.seg_exec.specs.Snapshots.{snapshot_of};
-ghost use Rattle.seg_exec.specs.Segment.{flow_of};
+ghost use Rattle.seg_meaning.specs.Segment.{flow_of};
 ghost use Rattle.seg_exec.specs.inner.Faulting.{snapshot_at};
 ghost use Rattle.seg_exec.specs.inner.steps.Calls.{calls_of};
 
-use crate::active::ActiveCall;
-use crate::fault::FaultCause;
-use crate::frame::Frame;
 use crate::segment::machine_at;
 use crate::steps::machine::Machine;
 use crate::steps::request::Ending;
 use crate::strides::run::run;
+use seg_meaning::{ActiveCall, FaultCause, Frame};
 use std::alloc::Global;
 use twe_base::{Ints, List, Memory};
 use twe_program::Prog;

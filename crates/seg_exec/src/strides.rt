@@ -4,10 +4,12 @@
 //! of which no branch is picked is passed in place. An operator whose value is returned from a body, and whose operands call
 //! methods, takes one frame. All else is done by a step of the machine.
 
+mod arguments;
 mod assign;
 mod branch;
 mod carry;
 mod choose;
+mod enter;
 mod evaluate;
 mod gather;
 mod give;

@@ -1,7 +1,10 @@
 //! The entries of a journal: moves and how they ended.
+ghost use Rattle.std.specs.Prelude.{◌≡◌, map, IfOk};
+ghost use Rattle.seg_journal.specs.Spelling.{move_of};
 
-use crate::Move;
-use twe_base::{FaultKind, List, Place};
+use crate::{Move, Moves};
+use std::alloc::Global;
+use twe_base::{FaultKind, List, Memory, Place};
 
 /// How a move ended. An admission ends in `Admitted`, and a segment in one of the others.
 #[derive(Clone, Copy, Debug, PartialEq, Eq)]
@@ -48,3 +51,14 @@ pub struct Entry {
 
 /// The entries of a run, in the order in which they happened.
 pub type Journal = List<Entry>;
+
+/// The moves of the entries, in order.
+pub fn moves_of(alloc: Global, entries: &[Entry]) -> Result<Moves, Memory>
+    ensures { IfOk result (λ moves. moves ≡ map move_of entries.now) }
+{
+    let mut moves = Moves::new(alloc);
+    for entry in entries {
+        moves.push(entry.mv)?;
+    }
+    Ok(moves)
+}

@@ -14,8 +14,9 @@ mod number;
 mod numbered;
 mod text;
 
-pub use journal::{End, Entry, Journal};
+pub use journal::{End, Entry, Journal, moves_of};
 pub use laws::{journal_or_bad_line, one_spelling};
+pub use line::word_of;
 pub use merging::merge;
 pub use moves::{Kind, Move, Moves};
 pub use numbered::{JournalPart, NumberedEntry};

@@ -58,7 +58,7 @@ fn rest_after<'a>(text: &'a [u8], word: &[u8]) -> Option<&'a [u8]>
 }
 
 /// The word of a kind, with the blank that follows it.
-fn word_of(kind: Kind) -> &'static [u8]
+pub fn word_of(kind: Kind) -> &'static [u8]
     ensures { result.now ≡ kind_word kind }
 {
     match kind {

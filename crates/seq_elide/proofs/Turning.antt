@@ -7,18 +7,18 @@ use Rattle.twe_base.specs.Limits.{Bounds}
 use Rattle.twe_base.specs.declared.fault.FaultKind.{FaultKind}
 use Rattle.twe_base.specs.declared.fault.FaultKind.TheVariants.{TaskLimit}
 use Rattle.twe_program.specs.Program.{Program}
-use Rattle.seg_exec.specs.declared.frame.Frame.{Frame}
-use Rattle.seg_exec.specs.declared.stop.Stop.{Stop}
-use Rattle.seg_exec.specs.declared.stop.Stop.TheVariants.{Make, Waits, Joins, Done, Fault}
-use Rattle.seg_exec.specs.Giving.{given}
-use Rattle.seg_exec.specs.Segment.{segment}
-use Rattle.twe_machine.proofs.segment_laws.SegmentKept.{segment_keeps}
-use Rattle.twe_machine.specs.Moves.{frame_without_prints, making_frame}
-use Rattle.seq_elide.specs.declared.progress.Progress.{Progress}
-use Rattle.seq_elide.specs.Elision.{Ending, ends, fails, strays, Running, after_segment, after_stop, first_frame, is_child, kept_value, run_within, then_go_on, with_segment, with_task, with_value}
+use Rattle.seg_meaning.specs.declared.frame.Frame.{Frame}
+use Rattle.seg_meaning.specs.declared.stop.Stop.{Stop}
+use Rattle.seg_meaning.specs.declared.stop.Stop.TheVariants.{Make, Waits, Joins, Done, Fault}
+use Rattle.seg_meaning.specs.Giving.{given}
+use Rattle.seg_meaning.specs.Segment.{segment}
+use Rattle.machine_state.proofs.segment_laws.SegmentKept.{segment_keeps}
+use Rattle.machine_state.specs.Moves.{frame_without_prints, making_frame}
+use Rattle.determinism_laws.specs.declared.elision.progress.Progress.{Progress}
+use Rattle.determinism_laws.specs.elision.Elision.{Ending, ends, fails, strays, Running, after_segment, after_stop, first_frame, is_child, kept_value, run_within, then_go_on, with_segment, with_task, with_value}
 use Rattle.seq_elide.specs.inner.Turns.{Turned, goes_to, ended, faulted, strayed, turn_after, turn_at_end, turn_at_stop}
-use Rattle.seq_elide.proofs.Falls.{Spends, joined_falls, room, segment_spends, size, spawn_falls, weight}
-use Rattle.seq_elide.proofs.Within.{one_more, run_ends, same_within}
+use Rattle.determinism_laws.proofs.elision.Falls.{Spends, joined_falls, room, segment_spends, size, spawn_falls, weight}
+use Rattle.determinism_laws.proofs.elision.Within.{one_more, run_ends, same_within}
 
 -- how the whole ends once its innermost task has ended
 abbrev pub unwound : Running → List Frame → Ending → Ending

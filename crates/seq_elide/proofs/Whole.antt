@@ -3,17 +3,17 @@ use Rattle.std.proofs.Common.{◌≡◌, ◌<◌, ◌≤◌, ℕ, ℤ, List, [],
 use Rattle.std.specs.Prelude.{IfErr, IsErrAnd, Result, Ok, Err}
 use Rattle.twe_base.specs.Limits.{Bounds}
 use Rattle.twe_program.specs.Program.{Program, cell_count}
-use Rattle.seg_exec.specs.declared.frame.Frame.{Frame}
-use Rattle.seg_exec.specs.Segment.{segment}
+use Rattle.seg_meaning.specs.declared.frame.Frame.{Frame}
+use Rattle.seg_meaning.specs.Segment.{segment}
 use Rattle.seq_elide.specs.declared.execution.Elided.{Elided}
 use Rattle.seq_elide.specs.declared.fail.ElideFail.{ElideFail}
 use Rattle.seq_elide.specs.declared.fail.ElideFail.TheVariants as fail
-use Rattle.seq_elide.specs.declared.progress.Progress.{Progress}
+use Rattle.determinism_laws.specs.declared.elision.progress.Progress.{Progress}
 use Rattle.seq_elide.specs.Answers.{EndsWith, FailsWith, elided_with}
-use Rattle.seq_elide.specs.Elision.{Ending, ends, Running, elided, frame_at_start, most_segments, progress_at_start, run_within}
+use Rattle.determinism_laws.specs.elision.Elision.{Ending, ends, Running, elided, frame_at_start, most_segments, progress_at_start, run_within}
 use Rattle.seq_elide.specs.inner.Turns.{IsFailure, Turned, goes_to, ended, turn_after}
 use Rattle.seq_elide.proofs.Turning.{LeavesLess, size_of_all, turn_keeps, turn_leaves_less, unwound, whole}
-use Rattle.seq_elide.proofs.Within.{most_is_enough}
+use Rattle.determinism_laws.proofs.elision.Within.{most_is_enough}
 
 -- the definition's own meaning of the segments that follow
 abbrev pub definition : Program → Bounds → Running

@@ -3,8 +3,8 @@ use Rattle.std.specs.Prelude.{◌≡◌, ◌-◌, ℤ, length}
 use Rattle.seq_elide.specs.declared.execution.Elided.{Elided}
 use Rattle.seq_elide.specs.declared.fail.ElideFail.{ElideFail}
 use Rattle.seq_elide.specs.declared.fail.ElideFail.TheVariants.{Fault, NotForkJoin, OutOfMemory}
-use Rattle.seq_elide.specs.declared.progress.Progress.{Progress}
-use Rattle.seq_elide.specs.Elision.{Ending, ends, fails, strays, goes_on}
+use Rattle.determinism_laws.specs.declared.elision.progress.Progress.{Progress}
+use Rattle.determinism_laws.specs.elision.Elision.{Ending, ends, fails, strays, goes_on}
 
 -- the result of an execution that has ended with this value; the first task was not made by it
 abbrev pub elided_with : ℤ → Progress → Elided

@@ -1,4 +1,2 @@
 pub mod Answers
-pub mod Building
-pub mod Elision
 pub mod inner

@@ -2,12 +2,13 @@
 ghost use Rattle.std.specs.Prelude.{◌≡◌, IfOk, IfErr, length};
 ghost use Rattle.twe_program.specs.Program.{cell_count};
 ghost use Rattle.seq_elide.specs.Answers.{EndsWith, FailsWith, elided_with};
-ghost use Rattle.seq_elide.specs.Elision.{elided, frame_at_start};
+ghost use Rattle.determinism_laws.specs.elision.Elision.{elided, frame_at_start};
 
 use crate::fail::ElideFail;
-use crate::progress::Progress;
 use crate::turn::{Turn, first_frame, take_turn};
-use seg_exec::{Frame, entry_frame};
+use determinism_laws::elision::Progress;
+use seg_exec::entry_frame;
+use seg_meaning::Frame;
 use std::alloc::Global;
 use twe_base::{Ints, Limits, Memory, Stack};
 use twe_program::Prog;

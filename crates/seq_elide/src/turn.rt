@@ -2,16 +2,17 @@
 ghost use Rattle.std.specs.Prelude.{◌≡◌, ◌==◌, ◌<◌, IfOk, IfErr, List, true, length};
 ghost use Rattle.std.specs.List.{list_any};
 ghost use Rattle.twe_program.specs.Program.{cell_count};
-ghost use Rattle.seg_exec.specs.declared.frame.Frame.{Frame};
-ghost use Rattle.seg_exec.specs.Segment.{HasRoomToSpawn, segment};
-ghost use Rattle.twe_machine.specs.Moves.{making_frame};
-ghost use Rattle.seq_elide.specs.declared.progress.Progress.{Progress};
-ghost use Rattle.seq_elide.specs.Elision.{first_frame};
+ghost use Rattle.seg_meaning.specs.declared.frame.Frame.{Frame};
+ghost use Rattle.seg_meaning.specs.Segment.{HasRoomToSpawn, segment};
+ghost use Rattle.machine_state.specs.Moves.{making_frame};
+ghost use Rattle.determinism_laws.specs.declared.elision.progress.Progress.{Progress};
+ghost use Rattle.determinism_laws.specs.elision.Elision.{first_frame};
 ghost use Rattle.seq_elide.specs.inner.Turns.{IsFailure, IsTurn, turn_after, turn_at_end, turn_at_join, turn_at_spawn, turn_at_stop};
 
 use crate::fail::ElideFail;
-use crate::progress::Progress;
-use seg_exec::{Frame, Stop, run_segment_over_list};
+use determinism_laws::elision::Progress;
+use seg_exec::run_segment_over_list;
+use seg_meaning::{Frame, Stop};
 use std::alloc::Global;
 use twe_base::{FaultKind, Limits, Memory, Place, Stack};
 use twe_machine::set_future;

@@ -4,7 +4,7 @@ use Rattle.std.proofs.Common.{◌≡◌, ◌<◌, ◌⊎◌, inl, inr, ℕ, zero
 use Rattle.std.specs.Prelude.{slice_get, slice_index, sum_by}
 use Rattle.std.specs.List.{AllZip}
 use Rattle.std.proofs.lemmas.List.Sums.{sum_by-cons}
-use Rattle.span_profile.specs.Timetables.{AreEarliest}
+use Rattle.schedules.specs.Timetables.{AreEarliest}
 use Rattle.span_profile.specs.heaviest_chain.Chains.{IsChain, IsHeaviest, Leads, chain_weight, weight_at, weight_of_found}
 use Rattle.span_profile.proofs.Lists.{zip_first, zip_length, zip_second}
 

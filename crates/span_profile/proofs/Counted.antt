@@ -5,9 +5,9 @@ use Rattle.std.proofs.lemmas.List.Folds.{list_any-append}
 use Rattle.seg_journal.specs.declared.journal.Entry.{Entry}
 use Rattle.twe_base.specs.Limits.{Bounds}
 use Rattle.twe_program.specs.Program.{Program}
-use Rattle.twe_machine.specs.declared.state.State.{State}
-use Rattle.twe_machine.specs.Moves.{move_result}
-use Rattle.twe_machine.specs.Runs.{LegalFrom, counted, is_fault, replayed}
+use Rattle.machine_state.specs.declared.state.State.{State}
+use Rattle.machine_state.specs.Moves.{move_result}
+use Rattle.machine_state.specs.Runs.{LegalFrom, counted, is_fault, replayed}
 use Rattle.span_profile.specs.Strands.{Strand, strand_of, strands_from}
 use Rattle.span_profile.specs.inner.Tracked.{has_fault}
 

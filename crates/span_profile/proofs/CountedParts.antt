@@ -7,13 +7,13 @@ use Rattle.seg_journal.specs.declared.moves.Move.{Move}
 use Rattle.seg_journal.specs.Spelling.{move_of}
 use Rattle.twe_base.specs.Limits.{Bounds}
 use Rattle.twe_program.specs.Program.{Program}
-use Rattle.twe_machine.specs.declared.legal.Why.{Why}
-use Rattle.twe_machine.specs.declared.replaying.ReplayFail.{ReplayFail}
-use Rattle.twe_machine.specs.declared.state.State.{State}
-use Rattle.twe_machine.specs.Moves.{move_result, start_of}
-use Rattle.twe_machine.specs.Replays.{IsFirstIllegal, IsReplay}
-use Rattle.twe_machine.specs.Runs.{Legal, LegalFrom, counted, is_fault, state_after}
-use Rattle.twe_machine.proofs.replays.Replayed.{one_from}
+use Rattle.machine_state.specs.declared.why.Why.{Why}
+use Rattle.machine_state.specs.declared.replay_fail.ReplayFail.{ReplayFail}
+use Rattle.machine_state.specs.declared.state.State.{State}
+use Rattle.machine_state.specs.Moves.{move_result, start_of}
+use Rattle.machine_state.specs.Replays.{IsFirstIllegal, IsReplay}
+use Rattle.machine_state.specs.Runs.{Legal, LegalFrom, counted, is_fault, state_after}
+use Rattle.machine_state.proofs.replays.Replayed.{one_from}
 use Rattle.span_profile.specs.Advice.{IsCountedRun}
 
 -- the entries up to this number have met no fault

@@ -7,14 +7,14 @@ use Rattle.seg_journal.specs.declared.moves.Move.{Move}
 use Rattle.twe_base.specs.Limits.{Bounds}
 use Rattle.twe_program.specs.Program.{Program, cell_count}
 use Rattle.twe_program.specs.WellFormed.{IsWellFormed}
-use Rattle.twe_machine.specs.declared.state.State.{State}
-use Rattle.twe_machine.specs.Legal.{MayMove}
-use Rattle.twe_machine.specs.Runs.{IsReached}
-use Rattle.twe_machine.proofs.standing.ReachedStands.{reached_stands}
+use Rattle.machine_state.specs.declared.state.State.{State}
+use Rattle.machine_state.specs.Legal.{MayMove}
+use Rattle.machine_state.specs.Runs.{IsReached}
+use Rattle.machine_state.proofs.standing.ReachedStands.{reached_stands}
 use Rattle.span_profile.specs.declared.deed.Deed.{Deed}
 use Rattle.span_profile.specs.declared.recording.EntryKeys.{EntryKeys}
 use Rattle.span_profile.specs.declared.recording.Recorder.{Recorder}
-use Rattle.span_profile.specs.declared.watched.Watched.{Watched}
+use Rattle.span_profile.specs.declared.watched.WatchedCells.{WatchedCells}
 use Rattle.span_profile.specs.heaviest_chain.Nodes.{Node}
 use Rattle.span_profile.specs.Recorders.{HasKeysOf, Records, node_with}
 use Rattle.span_profile.specs.Strands.{strand_of}
@@ -22,7 +22,7 @@ use Rattle.span_profile.specs.inner.Deeds.{DidMove, asked, given, node_of}
 use Rattle.span_profile.specs.inner.Shows.{Shows}
 use Rattle.span_profile.proofs.Tracking.{IsNoted, mover_row, noted, shows_kind}
 
-module _ (p : Program) (lim : Bounds) (well : IsWellFormed p) (st : State) (reached : IsReached p lim st) (mv : Move) (may : MayMove st mv) (deed : Deed) (watched : Watched)
+module _ (p : Program) (lim : Bounds) (well : IsWellFormed p) (st : State) (reached : IsReached p lim st) (mv : Move) (may : MayMove st mv) (deed : Deed) (watched : WatchedCells)
     (did : DidMove p st mv deed watched) where
   pub recorded : IsNoted p deed watched
   recorded = let row = mover_row st mv.kind mv.task may in noted p st mv.kind mv.task row.0 row.1 deed watched did

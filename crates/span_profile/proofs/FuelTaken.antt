@@ -1,4 +1,5 @@
--- All entries of a legal journal together weigh no more than their number and the fuel of all tasks that may be made.
+-- All entries of a legal journal together weigh as much as their number and the fuel that its tasks have taken, so no more than
+-- their number and the fuel of all tasks that may be made.
 use Rattle.std.proofs.Common.{◌≡◌, ◌<◌, ◌≤◌, ◌+◌, ◌-◌, ◌*◌, ◌^◌, ℕ, ℤ, zero, suc, Bool, true, false, List, [], ◌∷◌, ◌++◌, length, Option, None, Some, refl, ap, ◌∙◌, arith, length-append, length-set, nat_lt}
 use Rattle.std.specs.Prelude.{slice_get, slice_set, sum_by, if◌then◌else◌}
 use Rattle.std.proofs.Math.Nat.{mul-le-mul_left}
@@ -16,39 +17,39 @@ use Rattle.twe_base.specs.Limits.{Bounds, IsWithin}
 use Rattle.twe_program.specs.Program.{Program}
 use Rattle.twe_program.specs.WellFormed.{IsWellFormed}
 use Rattle.wait_graph.specs.Link.{link_of}
-use Rattle.seg_exec.specs.declared.frame.Frame.{Frame}
-use Rattle.seg_exec.specs.declared.frame.Next.{Next}
-use Rattle.seg_exec.specs.declared.frame.Next.TheVariants.{Go, Get, Join, Closing, Ended}
-use Rattle.seg_exec.specs.declared.stop.Stop.{Stop}
-use Rattle.seg_exec.specs.declared.stop.Stop.TheVariants as stops
-use Rattle.seg_exec.specs.Giving.{given_by}
-use Rattle.seg_exec.specs.Segment.{segment}
-use Rattle.twe_machine.proofs.segment_laws.SegmentKept.{segment_keeps}
-use Rattle.twe_machine.specs.declared.state.State.{State}
-use Rattle.twe_machine.specs.declared.state.TaskRow.{TaskRow}
-use Rattle.twe_machine.specs.Legal.{MayTake}
-use Rattle.twe_machine.specs.Moves.{admitted_row, awaited_value, done_row, faulted_row, going_row, joined_child, joined_row, joined_rows, making_frame, new_row, parent_of, ready_frame, result_by_kind, start_of, state_after_asking, state_after_fault, state_after_join, state_after_make, stop_result, stopped_frame}
-use Rattle.twe_machine.specs.Rows.{row_awaited}
-use Rattle.twe_machine.specs.Runs.{Legal, LegalFrom, replayed}
-use Rattle.twe_machine.proofs.counts.AllJournals.{journal_length}
-use Rattle.twe_machine.proofs.weight.JoinedWeight.{asked_joined, length_joined}
-use Rattle.twe_machine.proofs.standing.ReachedStands.{start_stands, taken_stands}
-use Rattle.twe_machine.proofs.lists.RowNumbers.{joined_there}
-use Rattle.twe_machine.proofs.standing.Standing.{Stands}
+use Rattle.seg_meaning.specs.declared.frame.Frame.{Frame}
+use Rattle.seg_meaning.specs.declared.frame.Next.{Next}
+use Rattle.seg_meaning.specs.declared.frame.Next.TheVariants.{Go, Get, Join, Closing, Ended}
+use Rattle.seg_meaning.specs.declared.stop.Stop.{Stop}
+use Rattle.seg_meaning.specs.declared.stop.Stop.TheVariants as stops
+use Rattle.seg_meaning.specs.Giving.{given_by}
+use Rattle.seg_meaning.specs.Segment.{segment}
+use Rattle.machine_state.proofs.segment_laws.SegmentKept.{segment_keeps}
+use Rattle.machine_state.specs.declared.state.State.{State}
+use Rattle.machine_state.specs.declared.state.TaskRow.{TaskRow}
+use Rattle.machine_state.specs.Legal.{MayTake}
+use Rattle.machine_state.specs.Moves.{admitted_row, awaited_value, done_row, faulted_row, going_row, joined_child, joined_row, joined_rows, making_frame, new_row, parent_of, ready_frame, result_by_kind, start_of, state_after_asking, state_after_fault, state_after_join, state_after_make, stop_result, stopped_frame}
+use Rattle.machine_state.specs.Rows.{row_awaited}
+use Rattle.machine_state.specs.Runs.{Legal, LegalFrom, replayed}
+use Rattle.machine_state.proofs.counts.AllJournals.{journal_length}
+use Rattle.machine_state.proofs.weight.JoinedWeight.{asked_joined, length_joined}
+use Rattle.machine_state.proofs.standing.ReachedStands.{start_stands, taken_stands}
+use Rattle.machine_state.proofs.lists.RowNumbers.{joined_there}
+use Rattle.machine_state.proofs.standing.Standing.{Stands}
 use Rattle.span_profile.specs.Strands.{strand_by_kind, strand_of, strands, strands_from, weight_of}
 
 -- the fuel that a task has left, that of all tasks, and that of those that may still be made
 abbrev fuel_of : TaskRow → ℕ
 fuel_of row = row.frame.fuel
 
-abbrev rows_fuel : List TaskRow → ℕ
+abbrev pub rows_fuel : List TaskRow → ℕ
 rows_fuel [] = 0
 rows_fuel (row ∷ rows) = fuel_of row + rows_fuel rows
 
-abbrev room_fuel : Bounds → ℕ → ℕ
+abbrev pub room_fuel : Bounds → ℕ → ℕ
 room_fuel lim room = room * lim.fuel
 
-abbrev fuel_left : Bounds → State → ℕ
+abbrev pub fuel_left : Bounds → State → ℕ
 fuel_left lim st = rows_fuel st.tasks + room_fuel lim (lim.tasks - length st.tasks)
 
 set_fuel : (rows : List TaskRow) (t : ℕ) (row new : TaskRow) → slice_get rows t ≡ Some row → rows_fuel (slice_set rows t new) + fuel_of row ≡ rows_fuel rows + fuel_of new
@@ -139,7 +140,7 @@ ready_fuel rows frame = given_fuel_by frame.next frame (awaited_value rows (row_
 module _ (p : Program) (lim : Bounds) where
   -- an entry weighs 1 more than the fuel that it takes
   taken_fuel : (st : State) (kind : Kind) (t : ℕ) (end : End) → MayTake st kind t → (st.asked + 1 < lim.tasks → st.asked + 1 ≡ length st.tasks)
-      → fuel_left lim (result_by_kind p lim st kind t).0 + (strand_by_kind p st kind t (slice_get st.tasks t) end).weight ≤ fuel_left lim st + 1
+      → fuel_left lim (result_by_kind p lim st kind t).0 + (strand_by_kind p st kind t (slice_get st.tasks t) end).weight ≡ fuel_left lim st + 1
   taken_fuel st Admit t end may counts =
       let row = may.0.0 in
       let sum = set_fuel st.tasks t row (admitted_row row) may.0.1 in
@@ -156,8 +157,8 @@ module _ (p : Program) (lim : Bounds) where
       rw may.0.1 (omega (arith, sum, kept, ready))
 
   module _ (well : IsWellFormed p) where
-    run_fuel : (st : State) (entries : List Entry) → Stands p lim st → LegalFrom p lim st entries
-        → sum_by weight_of (strands_from p lim st entries) + fuel_left lim (replayed p lim st entries) ≤ fuel_left lim st + length entries
+    pub run_fuel : (st : State) (entries : List Entry) → Stands p lim st → LegalFrom p lim st entries
+        → sum_by weight_of (strands_from p lim st entries) + fuel_left lim (replayed p lim st entries) ≡ fuel_left lim st + length entries
     run_fuel st [] stands legal = omega arith
     run_fuel st (entry ∷ entries) stands legal =
         let next : State = (result_by_kind p lim st entry.mv.kind entry.mv.task).0 in
@@ -166,7 +167,7 @@ module _ (p : Program) (lim : Bounds) where
         let sum = sum_by-cons weight_of (strand_of p st entry) (strands_from p lim next entries) in
         omega (arith, first, rest, sum)
 
-    start_fuel : 1 ≤ lim.tasks → fuel_left lim (start_of p lim) ≡ lim.tasks * lim.fuel
+    pub start_fuel : 1 ≤ lim.tasks → fuel_left lim (start_of p lim) ≡ lim.tasks * lim.fuel
     start_fuel some = let whole = less_room lim lim.tasks (omega arith) in omega (arith, whole)
 
     -- so a sum of weights fits

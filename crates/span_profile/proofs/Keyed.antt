@@ -10,15 +10,15 @@ use Rattle.span_profile.specs.declared.heaviest_chain.key.Key.TheVariants.{Task,
 use Rattle.prefix_tree.specs.declared.part.Part.{Part}
 use Rattle.prefix_tree.specs.declared.part.Part.TheVariants.{Name, Index}
 use Rattle.region_paths.specs.Concrete.{ConcreteElem, ConcretePath, region, number}
-use Rattle.seg_exec.specs.Access.{Access as CellAccess, Reads, Writes, Prints, MayAll}
-use Rattle.seg_exec.specs.Plain.{list_ways}
+use Rattle.seg_meaning.specs.Access.{Access as CellAccess, Reads, Writes, Prints, MayAll}
+use Rattle.seg_meaning.specs.Plain.{list_ways}
 use Rattle.seg_journal.specs.declared.journal.End.{End}
 use Rattle.seg_journal.specs.declared.journal.End.TheVariants as ends
 use Rattle.isolation_laws.specs.soundness.DeclaredNow.{access_of}
 use Rattle.twe_program.specs.Program.{Program, cell_count}
-use Rattle.twe_machine.specs.Runs.{is_done}
+use Rattle.machine_state.specs.Runs.{is_done}
 use Rattle.span_profile.specs.declared.deed.Deed.{Deed}
-use Rattle.span_profile.specs.declared.places.Places.{Places}
+use Rattle.span_profile.specs.declared.places.NumberedPaths.{NumberedPaths}
 use Rattle.span_profile.specs.LeadsTo.{LeadsTo, conflict, gives_value, makes, same_task}
 use Rattle.span_profile.specs.Strands.{Strand, made_task}
 use Rattle.span_profile.specs.inner.Deeds.{access_keys, asked, end_keys, given, has_print, print_asks, print_gives, value_keys, write_keys}
@@ -78,7 +78,7 @@ contained_print (Reads n other ∷ earlier) value has = elim (contains_cases (Re
 contained_print (Writes n other ∷ earlier) value has = elim (contains_cases (Writes n other) (Prints value) earlier has) [ inl same ↦ absurd (cc) | inr later ↦ contained_print earlier value later ]
 contained_print (Prints other ∷ earlier) value has = refl
 
-module _ (p : Program) (places : Places) (are : ArePlaces p places) (deed : Deed) (accesses : List CellAccess) (printed : deed.printed ≡ has_print accesses)
+module _ (p : Program) (places : NumberedPaths) (are : ArePlaces p places) (deed : Deed) (accesses : List CellAccess) (printed : deed.printed ≡ has_print accesses)
     (cells : List ℤ) (as_many : length cells ≡ cell_count p) (may : MayAll list_ways cells accesses) where
   abbrev reads : List ℕ
   reads = (read_by accesses (no_cells (cell_count p))).items
@@ -94,6 +94,7 @@ module _ (p : Program) (places : Places) (are : ArePlaces p places) (deed : Deed
     made = made_task deed.end;
     taken = deed.taken;
     done = is_done deed.end;
+    cells = accesses;
     accesses = map (access_of p) accesses;
   }
 

@@ -1,5 +1,4 @@
 pub mod Agreeing
-pub mod Bounds
 pub mod Counted
 pub mod CountedParts
 pub mod EntryRecords
@@ -11,11 +10,11 @@ pub mod Lists
 pub mod Noted
 pub mod NumberSets
 pub mod Numbers
-pub mod OneMore
+pub mod OneAdvice
 pub mod OneProfile
-pub mod Paced
+pub mod OneReason
+pub mod OneTimes
 pub mod PacedRuns
-pub mod PacedTimes
 pub mod PathReasons
 pub mod Ran
 pub mod SmallWorks
@@ -24,3 +23,4 @@ pub mod TaskTotals
 pub mod Tracking
 pub mod TrailSteps
 pub mod Watching
+pub mod WorksSum

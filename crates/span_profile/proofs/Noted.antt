@@ -3,23 +3,13 @@ use Rattle.std.proofs.Common.{◌≡◌, ◌<◌, ◌≤◌, ◌⊎◌, inl, inr
 use Rattle.std.specs.Prelude.{slice_get, if◌then◌else◌}
 use Rattle.std.specs.List.{Contains}
 use Rattle.std.proofs.lemmas.Bool.{cases_lt}
-use Rattle.seg_exec.specs.Access.{Access, Reads, Writes, Prints}
+use Rattle.seg_meaning.specs.Access.{Access, Reads, Writes, Prints}
+use Rattle.span_profile.specs.Reasons.{read_cell, written_cell}
 use Rattle.span_profile.specs.inner.Sets.{NumberSet, is_in, no_cells, with_cell}
 use Rattle.span_profile.specs.inner.Watch.{read_by, written_by}
 use Rattle.span_profile.proofs.Lists.{contains_cases, contains_none}
 use Rattle.span_profile.proofs.NumberSets.{in_contains}
 use Rattle.span_profile.proofs.Numbers.{get_at, get_left}
-
--- the cell of an access of one kind
-abbrev pub read_cell : Access → Option ℕ
-read_cell (Reads cell value) = Some cell
-read_cell (Writes cell value) = None
-read_cell (Prints value) = None
-
-abbrev pub written_cell : Access → Option ℕ
-written_cell (Reads cell value) = None
-written_cell (Writes cell value) = Some cell
-written_cell (Prints value) = None
 
 -- a number more, unless it is there
 abbrev added : Option ℕ → List ℕ → List ℕ

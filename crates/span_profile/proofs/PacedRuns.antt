@@ -5,15 +5,15 @@ use Rattle.seg_journal.specs.declared.journal.Entry.{Entry}
 use Rattle.seg_journal.specs.declared.moves.Move.{Move}
 use Rattle.twe_base.specs.Limits.{Bounds}
 use Rattle.twe_program.specs.Program.{Program}
-use Rattle.twe_machine.specs.Moves.{start_of}
-use Rattle.twe_machine.specs.Runs.{counted}
-use Rattle.twe_machine.proofs.replays.Replayed.{one_from}
+use Rattle.machine_state.specs.Moves.{start_of}
+use Rattle.machine_state.specs.Runs.{counted}
+use Rattle.machine_state.proofs.replays.Replayed.{one_from}
 use Rattle.span_profile.specs.Profiles.{HasEarliest, IsProfile}
 use Rattle.span_profile.specs.Strands.{strands, weight_of}
-use Rattle.span_profile.specs.Schedules.{least_time}
-use Rattle.span_profile.specs.Sums.{sum_below}
-use Rattle.span_profile.specs.Timetables.{IsPacedTime}
-use Rattle.span_profile.proofs.PacedTimes.{least, short}
+use Rattle.schedules.specs.Schedules.{least_time}
+use Rattle.schedules.specs.Sums.{sum_below}
+use Rattle.schedules.specs.Timetables.{IsPacedTime}
+use Rattle.schedules.proofs.PacedTimes.{least, short}
 use Rattle.span_profile.specs.Speed.{EntryLeads, entry_weight}
 use Rattle.span_profile.proofs.Speed.{sum_of_list}
 

@@ -3,28 +3,27 @@ use Rattle.std.proofs.Common.{◌≡◌, ◌<◌, ◌⊎◌, inl, inr, ℕ, ℤ,
 use Rattle.std.specs.Prelude.{◌==◌, ◌||◌, ◌↔◌, IsTrue, slice_get}
 use Rattle.std.specs.List.{Contains, list_any}
 use Rattle.std.proofs.lemmas.Bool.{eq-eqb, eqb-true, or_cases, or_left, or_right}
-use Rattle.std.proofs.lemmas.List.{map-append}
 use Rattle.std.proofs.lemmas.List.Elements.{Contains-append_right}
 use Rattle.effect_sets.specs.Access.{PathAccess}
 use Rattle.region_paths.specs.Concrete.{ConcretePath}
 use Rattle.isolation_laws.specs.soundness.CellPaths.{path_of_cell}
 use Rattle.isolation_laws.specs.soundness.DeclaredNow.{access_of}
-use Rattle.seg_exec.specs.Access.{Access as CellAccess, Reads, Writes, Prints}
+use Rattle.seg_meaning.specs.Access.{Access as CellAccess, Reads, Writes, Prints}
 use Rattle.twe_program.specs.Program.{Program, cell_count}
-use Rattle.span_profile.specs.Reasons.{Accessed, IsFirstPath, IsReasonFor, IsUntold, PrintsNone, ReadsNone, SaysWhether, Touched, WritesNone, console_path, printed, read, unlinked, wrote}
+use Rattle.span_profile.specs.Reasons.{Accessed, IsFirstCell, IsReasonFor, IsUntold, PrintsNone, ReadsNone, SaysWhether, Touched, WritesNone, console_path, printed, read, read_cell, unlinked, written_cell, wrote}
 use Rattle.span_profile.specs.Strands.{Strand}
 use Rattle.span_profile.specs.declared.deed.Deed.{Deed}
 use Rattle.span_profile.specs.declared.heaviest_chain.fronts.Fronts.{Fronts}
 use Rattle.span_profile.specs.declared.heaviest_chain.key.Key.TheVariants.{Write, Access}
-use Rattle.span_profile.specs.declared.places.Places.{Places}
+use Rattle.span_profile.specs.declared.places.NumberedPaths.{NumberedPaths}
 use Rattle.span_profile.specs.declared.reasons.LinkReason.TheVariants as reasons
-use Rattle.span_profile.specs.declared.watched.Watched.{Watched}
+use Rattle.span_profile.specs.declared.watched.WatchedCells.{WatchedCells}
 use Rattle.span_profile.specs.inner.Numbering.{ArePlaces, IsNumber, parts_of, place_of}
 use Rattle.span_profile.specs.inner.Shows.{HasAccess}
 use Rattle.span_profile.specs.inner.Trails.{IsEntryOf, IsFirstThat, IsMarked, gave, gave_cell}
 use Rattle.span_profile.proofs.Keyed.{contained_print, print_contained, read_there, same_path, write_there}
 use Rattle.span_profile.proofs.Lists.{contains_cases, contains_first, contains_later, contains_map, contains_none, map_contains}
-use Rattle.span_profile.proofs.Noted.{CameIn, StandsIn, came_in, noted, noted_has, read_cell, reads_noted, writes_noted, written_cell}
+use Rattle.span_profile.proofs.Noted.{CameIn, StandsIn, came_in, noted, noted_has, reads_noted, writes_noted}
 use Rattle.span_profile.proofs.Watching.{writes_contain}
 
 -- a true and a false test
@@ -48,18 +47,18 @@ of_any test (y ∷ ys) x has e = elim (contains_cases y x ys has) [
 ]
 
 -- the access that was picked
-read_is : (x : CellAccess) (cell : ℕ) → read_cell x ≡ Some cell → (value : ℤ) × (x ≡ Reads cell value)
+pub read_is : (x : CellAccess) (cell : ℕ) → read_cell x ≡ Some cell → (value : ℤ) × (x ≡ Reads cell value)
 read_is (Reads n value) cell e = let same : n ≡ cell = cc in (value, ap (λ (m : ℕ). Reads m value) same)
 read_is (Writes n value) cell e = absurd (cc)
 read_is (Prints value) cell e = absurd (cc)
 
-write_is : (x : CellAccess) (cell : ℕ) → written_cell x ≡ Some cell → (value : ℤ) × (x ≡ Writes cell value)
+pub write_is : (x : CellAccess) (cell : ℕ) → written_cell x ≡ Some cell → (value : ℤ) × (x ≡ Writes cell value)
 write_is (Reads n value) cell e = absurd (cc)
 write_is (Writes n value) cell e = let same : n ≡ cell = cc in (value, ap (λ (m : ℕ). Writes m value) same)
 write_is (Prints value) cell e = absurd (cc)
 
-module _ (p : Program) (places : Places) (are : ArePlaces p places) (fronts : Fronts) (number : ℕ) (a b : Strand) (marked : IsMarked are.nodes fronts number a)
-    (deed : Deed) (watched : Watched) (e : IsEntryOf p places deed watched b) where
+module _ (p : Program) (places : NumberedPaths) (are : ArePlaces p places) (fronts : Fronts) (number : ℕ) (a b : Strand) (marked : IsMarked are.nodes fronts number a)
+    (deed : Deed) (watched : WatchedCells) (e : IsEntryOf p places deed watched b) where
   -- an access to the path of a number
   numbered : (strand : Strand) (write : Bool) (place : ℕ) (path : ConcretePath) → IsNumber are.nodes place (parts_of path) → HasAccess are.nodes strand write place → Accessed strand write path
   numbered strand write place path is h =
@@ -122,13 +121,6 @@ module _ (p : Program) (places : Places) (are : ArePlaces p places) (fronts : Fr
       silent (of_entry (Prints value) has) (subst (Touched a) same touched)
 
   -- the accesses around one of them
-  around : (later earlier : List CellAccess) (y : CellAccess) (x : PathAccess) → e.accesses ≡ later ++ y ∷ earlier → access_of p y ≡ x
-      → b.accesses ≡ map (access_of p) later ++ x ∷ map (access_of p) earlier
-  around later earlier y x split is =
-      e.are
-      ∙ (ap (map (access_of p)) split
-      ∙ (map-append (access_of p) later (y ∷ earlier) ∙ ap (λ (z : PathAccess). map (access_of p) later ++ z ∷ map (access_of p) earlier) is))
-
   in_earlier : (later earlier : List CellAccess) (y z : CellAccess) → e.accesses ≡ later ++ y ∷ earlier → Contains earlier z → Contains e.accesses z
   in_earlier later earlier y z split has =
       subst (λ (l : List CellAccess). Contains l z) (sym split) (Contains-append_right later (y ∷ earlier) z (contains_later y z earlier has))
@@ -149,14 +141,16 @@ module _ (p : Program) (places : Places) (are : ArePlaces p places) (fronts : Fr
           let this = read_is came.this cell came.picks in
           let has : Contains e.accesses (Reads cell this.0) = subst (λ (y : CellAccess). Contains e.accesses y) this.1 (in_middle came.later came.earlier came.this came.split) in
           read cell untold (record {
-            later = map (access_of p) came.later;
-            earlier = map (access_of p) came.earlier;
-            split = around came.later came.earlier came.this (path_access false (path_of_cell p cell)) came.split (ap (access_of p) this.1);
+            later = came.later;
+            access = came.this;
+            earlier = came.earlier;
+            split = e.cells ∙ came.split;
+            accessed = came.picks;
             has = (wrote_by (place_of places cell) (path_of_cell p cell) (number_read cell this.0 has)).0 found.2;
-            none = λ other here.
-                let y = map_contains (access_of p) came.earlier (path_access false other) here in
-                read_fails y.0 other (in_earlier came.later came.earlier came.this y.0 came.split y.1) y.2
-                (λ n picks. let b = came.before y.0 n y.1 picks in found.3 b.0 n b.1 (ap (λ (l : List ℕ). slice_get l b.0) reads_are ∙ b.2));
+            none = λ before other here picks.
+                let y = read_is before other picks in
+                read_fails before (path_of_cell p other) (in_earlier came.later came.earlier came.this before came.split here) (ap (access_of p) y.1)
+                (λ n picked. let b = came.before before n here picked in found.3 b.0 n b.1 (ap (λ (l : List ℕ). slice_get l b.0) reads_are ∙ b.2));
           })
 
   pub reads_none : IsFirstThat (gave_cell fronts places true number) watched.reads.items None → ReadsNone a b
@@ -182,14 +176,16 @@ module _ (p : Program) (places : Places) (are : ArePlaces p places) (fronts : Fr
           let is = number_written cell this.0 has in
           wrote cell flag untold quiet silent
           (record {
-            later = map (access_of p) came.later;
-            earlier = map (access_of p) came.earlier;
-            split = around came.later came.earlier came.this (path_access true (path_of_cell p cell)) came.split (ap (access_of p) this.1);
+            later = came.later;
+            access = came.this;
+            earlier = came.earlier;
+            split = e.cells ∙ came.split;
+            accessed = came.picks;
             has = (touched_by (place_of places cell) (path_of_cell p cell) is).0 found.2;
-            none = λ other here.
-                let y = map_contains (access_of p) came.earlier (path_access true other) here in
-                write_fails y.0 other (in_earlier came.later came.earlier came.this y.0 came.split y.1) y.2 silent
-                (λ n picks. let b = came.before y.0 n y.1 picks in found.3 b.0 n b.1 (ap (λ (l : List ℕ). slice_get l b.0) writes_are ∙ b.2));
+            none = λ before other here picks.
+                let y = write_is before other picks in
+                write_fails before (path_of_cell p other) (in_earlier came.later came.earlier came.this before came.split here) (ap (access_of p) y.1) silent
+                (λ n picked. let b = came.before before n here picked in found.3 b.0 n b.1 (ap (λ (l : List ℕ). slice_get l b.0) writes_are ∙ b.2));
           })
           (subst (λ (t : Bool). IsTrue t ↔ Accessed a true (path_of_cell p cell)) (sym flag_is) (wrote_by (place_of places cell) (path_of_cell p cell) is))
 

@@ -2,21 +2,21 @@
 use Rattle.std.proofs.Common.{◌≡◌, ◌+◌, ◌-◌, ◌++◌, ℕ, ℤ, List, [], ◌∷◌, length, refl, sym, ap, ◌∙◌, subst, arith, length-append, nat_lt}
 use Rattle.std.proofs.lemmas.Bool.{lt-ltb}
 use Rattle.twe_program.specs.Program.{Program, cell_count}
-use Rattle.seg_exec.specs.declared.frame.Frame.{Frame}
-use Rattle.seg_exec.specs.declared.frame.Next.{Next}
-use Rattle.seg_exec.specs.declared.frame.Next.TheVariants.{Go, Get, Join, Closing, Ended}
-use Rattle.seg_exec.specs.declared.stop.Stop.{Stop}
-use Rattle.seg_exec.specs.Access.{Access, Reads, Writes, Prints, printed}
-use Rattle.seg_exec.specs.Giving.{given_by}
-use Rattle.seg_exec.specs.Segment.{CarriesOut, IsSegment, Stopped, flow_of, segment, stopped_by}
-use Rattle.seg_exec.specs.Store.{Flow, goes, returns, fails, stops}
-use Rattle.twe_machine.specs.declared.state.State.{State}
-use Rattle.twe_machine.specs.declared.state.TaskRow.{TaskRow}
-use Rattle.twe_machine.specs.Changes.{next_segment}
-use Rattle.twe_machine.specs.Moves.{awaited_value, ready_frame}
-use Rattle.twe_machine.specs.Rows.{row_awaited}
+use Rattle.seg_meaning.specs.declared.frame.Frame.{Frame}
+use Rattle.seg_meaning.specs.declared.frame.Next.{Next}
+use Rattle.seg_meaning.specs.declared.frame.Next.TheVariants.{Go, Get, Join, Closing, Ended}
+use Rattle.seg_meaning.specs.declared.stop.Stop.{Stop}
+use Rattle.seg_meaning.specs.Access.{Access, Reads, Writes, Prints, printed}
+use Rattle.seg_meaning.specs.Giving.{given_by}
+use Rattle.seg_meaning.specs.Segment.{CarriesOut, IsSegment, Stopped, flow_of, segment, stopped_by}
+use Rattle.seg_meaning.specs.Store.{Flow, goes, returns, fails, stops}
+use Rattle.machine_state.specs.declared.state.State.{State}
+use Rattle.machine_state.specs.declared.state.TaskRow.{TaskRow}
+use Rattle.machine_state.specs.Changes.{next_segment}
+use Rattle.machine_state.specs.Moves.{awaited_value, ready_frame}
+use Rattle.machine_state.specs.Rows.{row_awaited}
 use Rattle.span_profile.specs.declared.deed.Deed.{Deed}
-use Rattle.span_profile.specs.declared.watched.Watched.{Watched}
+use Rattle.span_profile.specs.declared.watched.WatchedCells.{WatchedCells}
 use Rattle.span_profile.specs.inner.Deeds.{HasDone, has_print}
 use Rattle.span_profile.specs.inner.Sets.{NumberSet, no_cells}
 use Rattle.span_profile.specs.inner.Watch.{WatchFollows, read_by, written_by}
@@ -50,19 +50,19 @@ ready_prints : (rows : List TaskRow) (frame : Frame) → (ready_frame rows frame
 ready_prints rows frame = ready_prints_by frame.next frame (awaited_value rows (row_awaited frame.next))
 
 -- the segment over the cells of the state, whose values were lent
-pub lent : (p : Program) (frame after : Frame) (cells values : List ℤ) (reads writes : NumberSet) (new : Watched) (stop : Stop) → values ≡ cells
+pub lent : (p : Program) (frame after : Frame) (cells values : List ℤ) (reads writes : NumberSet) (new : WatchedCells) (stop : Stop) → values ≡ cells
     → CarriesOut p WatchFollows frame (record { values = values; reads = reads; writes = writes }) stop after new
     → IsWatched p frame (record { values = cells; reads = reads; writes = writes }) stop after new
 lent p frame after cells values reads writes new stop same carried =
     watched_segment p frame after (record { values = cells; reads = reads; writes = writes }) new stop
     (subst (λ (l : List ℤ). CarriesOut p WatchFollows frame (record { values = l; reads = reads; writes = writes }) stop after new) same carried)
 
-pub segment_lent : (p : Program) (frame after : Frame) (cells new_cells : List ℤ) (reads writes : NumberSet) (new : Watched) (stop : Stop) → new_cells ≡ new.values
+pub segment_lent : (p : Program) (frame after : Frame) (cells new_cells : List ℤ) (reads writes : NumberSet) (new : WatchedCells) (stop : Stop) → new_cells ≡ new.values
     → IsWatched p frame (record { values = cells; reads = reads; writes = writes }) stop after new → IsSegment p frame cells stop after new_cells
 segment_lent p frame after cells new_cells reads writes new stop back w = subst (IsSegment p frame cells stop after) (sym back) w.segment_is
 
 -- what the entry did
-pub has_done : (p : Program) (st : State) (t : ℕ) (row : TaskRow) (deed : Deed) (frame after : Frame) (reads writes : NumberSet) (new watched : Watched) (stop : Stop) → row.frame.prints ≡ []
+pub has_done : (p : Program) (st : State) (t : ℕ) (row : TaskRow) (deed : Deed) (frame after : Frame) (reads writes : NumberSet) (new watched : WatchedCells) (stop : Stop) → row.frame.prints ≡ []
     → frame ≡ ready_frame st.tasks row.frame → IsWatched p frame (record { values = st.cells; reads = reads; writes = writes }) stop after new
     → reads ≡ no_cells (cell_count p) → writes ≡ no_cells (cell_count p) → watched.reads ≡ new.reads → watched.writes ≡ new.writes
     → deed.task ≡ t → deed.weight ≡ 1 + (frame.fuel - after.fuel) → deed.taken ≡ row_awaited row.frame.next → deed.printed ≡ nat_lt (length frame.prints) (length after.prints)

@@ -8,13 +8,13 @@ use Rattle.std.proofs.lemmas.List.Sums.{count_by-le-length}
 use Rattle.seg_journal.specs.declared.journal.Entry.{Entry}
 use Rattle.twe_base.specs.Language.{max_fuel, max_tasks}
 use Rattle.twe_base.specs.Limits.{Bounds, IsWithin}
-use Rattle.twe_machine.specs.declared.state.TaskRow.{TaskRow}
+use Rattle.machine_state.specs.declared.state.TaskRow.{TaskRow}
 use Rattle.seg_journal.specs.declared.moves.Move.{Move}
-use Rattle.twe_machine.specs.declared.state.State.{State}
-use Rattle.twe_machine.specs.Moves.{start_of}
-use Rattle.twe_machine.specs.Runs.{Legal}
-use Rattle.twe_machine.proofs.counts.AllJournals.{journal_length}
-use Rattle.twe_machine.proofs.standing.ReachedStands.{reached_stands}
+use Rattle.machine_state.specs.declared.state.State.{State}
+use Rattle.machine_state.specs.Moves.{start_of}
+use Rattle.machine_state.specs.Runs.{Legal}
+use Rattle.machine_state.proofs.counts.AllJournals.{journal_length}
+use Rattle.machine_state.proofs.standing.ReachedStands.{reached_stands}
 use Rattle.twe_program.specs.Program.{Program}
 use Rattle.twe_program.specs.WellFormed.{IsWellFormed}
 use Rattle.span_profile.proofs.CountedParts.{counted_legal}

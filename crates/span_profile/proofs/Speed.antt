@@ -3,10 +3,10 @@ use Rattle.std.proofs.Common.{◌≡◌, ◌<◌, ◌≤◌, ◌+◌, ◌*◌, �
 use Rattle.std.specs.List.{sum_by}
 use Rattle.std.proofs.lemmas.List.Sums.{sum_by-cons}
 use Rattle.span_profile.specs.heaviest_chain.Chains.{IsChain, IsHeaviest, Leads, weight_at}
-use Rattle.span_profile.specs.Chains.{ComesInOrder}
-use Rattle.span_profile.specs.Schedules.{IsGreedy, IsSchedule, least_time, length_of}
-use Rattle.span_profile.specs.Sums.{sum_below}
-use Rattle.span_profile.proofs.Bounds.{not_shorter, short}
+use Rattle.schedules.specs.Chains.{ComesInOrder}
+use Rattle.schedules.specs.Schedules.{IsGreedy, IsSchedule, least_time, length_of}
+use Rattle.schedules.specs.Sums.{sum_below}
+use Rattle.schedules.proofs.Bounds.{not_shorter, short}
 
 -- a chain is one in both crates
 in_order : (Leads : ℕ → ℕ → Type 0) (count : ℕ) (chain : List ℕ) → IsChain Leads count chain → ComesInOrder Leads count chain

@@ -5,7 +5,7 @@ use Rattle.std.specs.List.{count_by, fold, sum_by}
 use Rattle.std.proofs.lemmas.List.Sums.{fold_more}
 use Rattle.std.proofs.lemmas.List.{length-take-le, take_more}
 use Rattle.seg_journal.specs.declared.journal.Entry.{Entry}
-use Rattle.twe_machine.specs.declared.state.TaskRow.{TaskRow}
+use Rattle.machine_state.specs.declared.state.TaskRow.{TaskRow}
 use Rattle.span_profile.specs.Totals.{entries_of, total_of, with_work, work_if, work_of, works_from}
 use Rattle.span_profile.specs.declared.totals.TaskTotal.{TaskTotal}
 use Rattle.span_profile.specs.declared.totals.TaskWork.{TaskWork}

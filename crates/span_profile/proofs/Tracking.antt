@@ -4,7 +4,7 @@ use Rattle.std.specs.Prelude.{◌||◌, slice_get, sum_by}
 use Rattle.std.specs.List.{AllZip}
 use Rattle.std.proofs.lemmas.List.Sums.{sum_by_push}
 use Rattle.span_profile.specs.heaviest_chain.Built.{HasRoom, FrontHolds}
-use Rattle.span_profile.specs.Timetables.{AreEarliest}
+use Rattle.schedules.specs.Timetables.{AreEarliest}
 use Rattle.span_profile.specs.heaviest_chain.Chains.{IsHeaviest, Leads, weight_at}
 use Rattle.span_profile.specs.heaviest_chain.Nodes.{Node, SharesKey}
 use Rattle.span_profile.specs.heaviest_chain.Nodes as chain_nodes
@@ -19,24 +19,24 @@ use Rattle.seg_journal.specs.declared.moves.Move.{Move}
 use Rattle.twe_base.specs.Limits.{Bounds, IsWithin}
 use Rattle.twe_program.specs.Program.{Program, cell_count}
 use Rattle.twe_program.specs.WellFormed.{IsWellFormed}
-use Rattle.seg_exec.specs.Access.{Access, Reads, Writes, Prints}
-use Rattle.seg_exec.proofs.Accesses.{may_carry_out}
+use Rattle.seg_meaning.specs.Access.{Access, Reads, Writes, Prints}
+use Rattle.seg_meaning.proofs.Accesses.{may_carry_out}
 use Rattle.isolation_laws.specs.soundness.CellPaths.{path_of_cell}
-use Rattle.twe_machine.specs.declared.state.State.{State}
-use Rattle.twe_machine.specs.declared.state.TaskRow.{TaskRow}
-use Rattle.twe_machine.specs.Changes.{next_segment}
-use Rattle.twe_machine.specs.Legal.{MayMove, MayTake}
+use Rattle.machine_state.specs.declared.state.State.{State}
+use Rattle.machine_state.specs.declared.state.TaskRow.{TaskRow}
+use Rattle.machine_state.specs.Changes.{next_segment}
+use Rattle.machine_state.specs.Legal.{MayMove, MayTake}
 use Rattle.twe_machine.specs.Listings.{IsListing}
-use Rattle.twe_machine.specs.Moves.{move_result, ready_frame, start_of}
-use Rattle.twe_machine.specs.Rows.{IsRow}
-use Rattle.twe_machine.specs.Runs.{IsRun, Legal, counted, entry_of, is_done, is_fault}
-use Rattle.twe_machine.proofs.standing.ReachedStands.{reached_stands, start_stands}
-use Rattle.twe_machine.proofs.replays.Replayed.{run_more}
+use Rattle.machine_state.specs.Moves.{move_result, ready_frame, start_of}
+use Rattle.machine_state.specs.Rows.{IsRow}
+use Rattle.machine_state.specs.Runs.{IsRun, Legal, counted, entry_of, is_done, is_fault}
+use Rattle.machine_state.proofs.standing.ReachedStands.{reached_stands, start_stands}
+use Rattle.machine_state.proofs.replays.Replayed.{run_more}
 use Rattle.span_profile.specs.declared.deed.Deed.{Deed}
-use Rattle.span_profile.specs.declared.places.Places.{Places}
+use Rattle.span_profile.specs.declared.places.NumberedPaths.{NumberedPaths}
 use Rattle.span_profile.specs.declared.profiling.Tracked.{Tracked}
-use Rattle.span_profile.specs.declared.trail.Trail.{Trail}
-use Rattle.span_profile.specs.declared.watched.Watched.{Watched}
+use Rattle.span_profile.specs.declared.trail.ChainTrail.{ChainTrail}
+use Rattle.span_profile.specs.declared.watched.WatchedCells.{WatchedCells}
 use Rattle.span_profile.specs.LeadsTo.{LeadsTo}
 use Rattle.span_profile.specs.Strands.{Strand, admission, made_task, segment_strand, strand_by_kind, strand_of, strands, strands_from, weight_of}
 use Rattle.span_profile.specs.inner.Deeds.{DidKind, DidMove, HasAdmitted, HasDone, admission_deed, node_of}
@@ -55,31 +55,31 @@ use Rattle.span_profile.proofs.Keyed.{leads_shared, shared_leads, shows}
 
 module _ (p : Program) (well : IsWellFormed p) where
   -- the node shows what the entry did
-  node_same : (places : Places) (deed : Deed) (watched : Watched) (reads writes : NumberSet) → watched.reads ≡ reads → watched.writes ≡ writes
+  node_same : (places : NumberedPaths) (deed : Deed) (watched : WatchedCells) (reads writes : NumberSet) → watched.reads ≡ reads → watched.writes ≡ writes
       → record { weight = deed.weight; asks = (node_of places deed (record watched { reads = reads; writes = writes })).asks; gives = (node_of places deed (record watched { reads = reads; writes = writes })).gives }
       ≡ node_of places deed watched
   node_same places deed watched reads writes r w =
       λ i. node_of places deed (record watched { reads = sym r i; writes = sym w i })
 
-  shows_admission : (places : Places) (are : ArePlaces p places) (st : State) (t : ℕ) (deed : Deed) (watched : Watched) → length st.cells ≡ cell_count p → HasAdmitted p t deed watched
+  shows_admission : (places : NumberedPaths) (are : ArePlaces p places) (st : State) (t : ℕ) (deed : Deed) (watched : WatchedCells) → length st.cells ≡ cell_count p → HasAdmitted p t deed watched
       → Shows are.nodes (node_of places deed watched) (admission t)
   shows_admission places are st t deed watched many did =
       let shown = shows p places are (admission_deed t) [] refl st.cells many tt in
       subst (λ (n : Node). Shows are.nodes n (admission t)) (node_same places (admission_deed t) watched (no_cells (cell_count p)) (no_cells (cell_count p)) did.reads did.writes ∙ ap (λ (d : Deed). node_of places d watched) (sym did.deed_is))
       shown
 
-  shows_segment : (places : Places) (are : ArePlaces p places) (st : State) (t : ℕ) (row : TaskRow) (deed : Deed) (watched : Watched) → length st.cells ≡ cell_count p → HasDone p st t row deed watched
+  shows_segment : (places : NumberedPaths) (are : ArePlaces p places) (st : State) (t : ℕ) (row : TaskRow) (deed : Deed) (watched : WatchedCells) → length st.cells ≡ cell_count p → HasDone p st t row deed watched
       → Shows are.nodes (node_of places deed watched) (segment_strand p t row (next_segment p st row) deed.end)
   shows_segment places are st t row deed watched many did =
       let left = next_segment p st row in
       let shown = shows p places are deed left.accesses did.printed st.cells many (may_carry_out p well st.cells many (ready_frame st.tasks row.frame) st.cells) in
-      let same : record { task = deed.task; weight = deed.weight; made = made_task deed.end; taken = deed.taken; done = is_done deed.end; accesses = (segment_strand p t row left deed.end).accesses } ≡ segment_strand p t row left deed.end =
-      λ i. record { task = did.task i; weight = did.weight i; made = made_task deed.end; taken = did.taken i; done = is_done deed.end; accesses = (segment_strand p t row left deed.end).accesses } in
+      let same : record { task = deed.task; weight = deed.weight; made = made_task deed.end; taken = deed.taken; done = is_done deed.end; cells = (segment_strand p t row left deed.end).cells; accesses = (segment_strand p t row left deed.end).accesses } ≡ segment_strand p t row left deed.end =
+      λ i. record { task = did.task i; weight = did.weight i; made = made_task deed.end; taken = did.taken i; done = is_done deed.end; cells = (segment_strand p t row left deed.end).cells; accesses = (segment_strand p t row left deed.end).accesses } in
       subst (λ (n : Node). Shows are.nodes n (segment_strand p t row left deed.end)) (node_same places deed watched (read_by left.accesses (no_cells (cell_count p))) (written_by left.accesses (no_cells (cell_count p))) did.reads did.writes)
       (subst (Shows are.nodes (node_of places deed (record watched { reads = read_by left.accesses (no_cells (cell_count p)); writes = written_by left.accesses (no_cells (cell_count p)) }))) same shown)
 
   -- what an entry did, over its cells
-  entry_admission : (places : Places) (st : State) (t : ℕ) (deed : Deed) (watched : Watched) → length st.cells ≡ cell_count p → HasAdmitted p t deed watched → IsEntryOf p places deed watched (admission t)
+  entry_admission : (places : NumberedPaths) (st : State) (t : ℕ) (deed : Deed) (watched : WatchedCells) → length st.cells ≡ cell_count p → HasAdmitted p t deed watched → IsEntryOf p places deed watched (admission t)
   entry_admission places st t deed watched many did = record {
     accesses = [];
     values = st.cells;
@@ -89,13 +89,14 @@ module _ (p : Program) (well : IsWellFormed p) where
     made = sym (ap (λ (d : Deed). made_task d.end) did.deed_is);
     taken = sym (ap (λ (d : Deed). d.taken) did.deed_is);
     done = sym (ap (λ (d : Deed). is_done d.end) did.deed_is);
+    cells = refl;
     are = refl;
     printed = ap (λ (d : Deed). d.printed) did.deed_is;
     reads = ap (λ (s : NumberSet). s.items) did.reads;
     writes = ap (λ (s : NumberSet). s.items) did.writes;
   }
 
-  entry_segment : (places : Places) (st : State) (t : ℕ) (row : TaskRow) (deed : Deed) (watched : Watched) → length st.cells ≡ cell_count p → HasDone p st t row deed watched
+  entry_segment : (places : NumberedPaths) (st : State) (t : ℕ) (row : TaskRow) (deed : Deed) (watched : WatchedCells) → length st.cells ≡ cell_count p → HasDone p st t row deed watched
       → IsEntryOf p places deed watched (segment_strand p t row (next_segment p st row) deed.end)
   entry_segment places st t row deed watched many did = record {
     accesses = (next_segment p st row).accesses;
@@ -106,20 +107,21 @@ module _ (p : Program) (well : IsWellFormed p) where
     made = refl;
     taken = sym did.taken;
     done = refl;
+    cells = refl;
     are = refl;
     printed = did.printed;
     reads = ap (λ (s : NumberSet). s.items) did.reads;
     writes = ap (λ (s : NumberSet). s.items) did.writes;
   }
 
-  entry_kind : (places : Places) (st : State) (kind : Kind) (t : ℕ) (found : Option TaskRow) → slice_get st.tasks t ≡ found → (row : TaskRow) → found ≡ Some row
-      → (deed : Deed) (watched : Watched) → length st.cells ≡ cell_count p → DidKind p st kind t deed watched → IsEntryOf p places deed watched (strand_by_kind p st kind t found deed.end)
+  entry_kind : (places : NumberedPaths) (st : State) (kind : Kind) (t : ℕ) (found : Option TaskRow) → slice_get st.tasks t ≡ found → (row : TaskRow) → found ≡ Some row
+      → (deed : Deed) (watched : WatchedCells) → length st.cells ≡ cell_count p → DidKind p st kind t deed watched → IsEntryOf p places deed watched (strand_by_kind p st kind t found deed.end)
   entry_kind places st Admit t found e row is deed watched many did = entry_admission places st t deed watched many did
   entry_kind places st Run t None e row is deed watched many did = absurd (cc)
   entry_kind places st Run t (Some other) e row is deed watched many did = entry_segment places st t other deed watched many (did other e)
 
-  pub shows_kind : (places : Places) (are : ArePlaces p places) (st : State) (kind : Kind) (t : ℕ) (found : Option TaskRow) → slice_get st.tasks t ≡ found → (row : TaskRow) → found ≡ Some row
-      → (deed : Deed) (watched : Watched) → length st.cells ≡ cell_count p → DidKind p st kind t deed watched → Shows are.nodes (node_of places deed watched) (strand_by_kind p st kind t found deed.end)
+  pub shows_kind : (places : NumberedPaths) (are : ArePlaces p places) (st : State) (kind : Kind) (t : ℕ) (found : Option TaskRow) → slice_get st.tasks t ≡ found → (row : TaskRow) → found ≡ Some row
+      → (deed : Deed) (watched : WatchedCells) → length st.cells ≡ cell_count p → DidKind p st kind t deed watched → Shows are.nodes (node_of places deed watched) (strand_by_kind p st kind t found deed.end)
   shows_kind places are st Admit t found e row is deed watched many did = shows_admission places are st t deed watched many did
   shows_kind places are st Run t None e row is deed watched many did = absurd (cc)
   shows_kind places are st Run t (Some other) e row is deed watched many did = shows_segment places are st t other deed watched many (did other e)
@@ -142,12 +144,12 @@ written_size (Reads cell value ∷ earlier) set = written_size earlier set
 written_size (Writes cell value ∷ earlier) set = with_size cell (written_by earlier set) ∙ written_size earlier set
 written_size (Prints value ∷ earlier) set = written_size earlier set
 
-pub record IsNoted (p : Program) (deed : Deed) (watched : Watched) : Type 0 where
+pub record IsNoted (p : Program) (deed : Deed) (watched : WatchedCells) : Type 0 where
   pub some : 0 < deed.weight
   pub reads : watched.reads.size ≡ cell_count p
   pub writes : watched.writes.size ≡ cell_count p
 
-pub noted : (p : Program) (st : State) (kind : Kind) (t : ℕ) (row : TaskRow) → IsRow st t row → (deed : Deed) (watched : Watched) → DidKind p st kind t deed watched → IsNoted p deed watched
+pub noted : (p : Program) (st : State) (kind : Kind) (t : ℕ) (row : TaskRow) → IsRow st t row → (deed : Deed) (watched : WatchedCells) → DidKind p st kind t deed watched → IsNoted p deed watched
 noted p st Admit t row there deed watched did = record {
   some = let is = ap (λ (d : Deed). d.weight) did.deed_is in omega (arith, is);
   reads = ap (λ (s : NumberSet). s.size) did.reads;
@@ -188,14 +190,14 @@ pub start_cells : (p : Program) (lim : Bounds) → IsWellFormed p → (size : �
 start_cells p lim well size st is many = many ∙ (ap (λ (s : State). length s.cells) is ∙ (start_stands p lim well).cells)
 
 -- what is known of a move of a run under way
-pub record IsMove (p : Program) (lim : Bounds) (st : State) (mv : Move) (deed : Deed) (watched : Watched) (after : State) : Type 0 where
+pub record IsMove (p : Program) (lim : Bounds) (st : State) (mv : Move) (deed : Deed) (watched : WatchedCells) (after : State) : Type 0 where
   pub may : MayMove st mv
   pub row : TaskRow
   pub there : IsRow st mv.task row
   pub moved : (after, deed.end) ≡ move_result p lim st mv
   pub did : DidMove p st mv deed watched
 
-module _ (p : Program) (lim : Bounds) (well : IsWellFormed p) (within : IsWithin lim.fuel lim.tasks) (run : Tracked) (t : IsTracked p lim run) (mv : Move) (deed : Deed) (watched : Watched) (after : State)
+module _ (p : Program) (lim : Bounds) (well : IsWellFormed p) (within : IsWithin lim.fuel lim.tasks) (run : Tracked) (t : IsTracked p lim run) (mv : Move) (deed : Deed) (watched : WatchedCells) (after : State)
     (m : IsMove p lim run.st mv deed watched after) where
   abbrev entry : Entry
   entry = record { mv = mv; end = deed.end }
@@ -254,7 +256,7 @@ module _ (p : Program) (lim : Bounds) (well : IsWellFormed p) (within : IsWithin
     count : length (strands p lim (counted run.journal)) ≡ length run.journal
     count = strand_count p lim (start_of p lim) (counted run.journal) ∙ ap (λ (l : List Entry). length l) (all_counted run.journal no_fault)
 
-    pub trail_more : (trail : Trail) (number : ℕ) → number ≡ length run.journal
+    pub trail_more : (trail : ChainTrail) (number : ℕ) → number ≡ length run.journal
         → ((strands : List Strand) (b : Strand) → IsEntryOf p run.places deed watched b → Shows t.places.nodes (node_of run.places deed watched) b → length strands ≡ number
         → IsTrail p t.places.nodes strands run.trail → run.over ≡ false → IsTrail p t.places.nodes (strands ++ b ∷ []) trail)
         → IsTrail p t.places.nodes (strands p lim (counted all)) trail
@@ -267,7 +269,7 @@ module _ (p : Program) (lim : Bounds) (well : IsWellFormed p) (within : IsWithin
       (added : run.over ≡ false → FrontHolds (t.nodes ++ node_of run.places deed watched ∷ []) chains) (next : Tracked)
       (st_is : next.st ≡ after) (journal_is : next.journal ≡ all) (over_is : next.over ≡ ended) (places_are : next.places ≡ run.places) (reads : next.watched.reads ≡ no_cells (cell_count p))
       (writes : next.watched.writes ≡ no_cells (cell_count p)) (chains_are : next.chains ≡ chains) (listing : IsListing next.st next.enabled)
-      (trail : Trail) (number : ℕ) (number_is : number ≡ length run.journal) (trail_is : next.trail ≡ trail) (trail_kept : run.over ≡ true → trail ≡ run.trail)
+      (trail : ChainTrail) (number : ℕ) (number_is : number ≡ length run.journal) (trail_is : next.trail ≡ trail) (trail_kept : run.over ≡ true → trail ≡ run.trail)
       (follow : (strands : List Strand) (b : Strand) → IsEntryOf p run.places deed watched b → Shows t.places.nodes (node_of run.places deed watched) b → length strands ≡ number
       → IsTrail p t.places.nodes strands run.trail → run.over ≡ false → IsTrail p t.places.nodes (strands ++ b ∷ []) trail) where
     places_next : ArePlaces p next.places
@@ -293,10 +295,10 @@ module _ (p : Program) (lim : Bounds) (well : IsWellFormed p) (within : IsWithin
           (subst (IsTrail p t.places.nodes (strands p lim (counted all))) (sym trail_is) trails);
     } where
       places_cell : (cell : ℕ) → cell < cell_count p → IsNumber t.places.nodes (place_of next.places cell) (parts_of (path_of_cell p cell))
-      places_cell cell below = subst (λ (q : Places). IsNumber t.places.nodes (place_of q cell) (parts_of (path_of_cell p cell))) (sym places_are) (t.places.cells cell below)
+      places_cell cell below = subst (λ (q : NumberedPaths). IsNumber t.places.nodes (place_of q cell) (parts_of (path_of_cell p cell))) (sym places_are) (t.places.cells cell below)
 
       places_console : IsNumber t.places.nodes next.places.console (parts_of (region 0 ∷ []))
-      places_console = subst (λ (q : Places). IsNumber t.places.nodes q.console (parts_of (region 0 ∷ []))) (sym places_are) t.places.console
+      places_console = subst (λ (q : NumberedPaths). IsNumber t.places.nodes q.console (parts_of (region 0 ∷ []))) (sym places_are) t.places.console
 
     tracked_by : (b : Bool) → run.over ≡ b → IsTracked p lim next
     tracked_by true e =

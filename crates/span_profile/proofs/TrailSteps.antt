@@ -4,7 +4,7 @@ use Rattle.std.specs.Prelude.{◌==◌, ◌||◌, ◌&&◌, ◌↔◌, IsTrue, i
 use Rattle.std.specs.List.{Contains, list_any}
 use Rattle.std.proofs.lemmas.Bool.{cases_lt, eq-eqb, lt-ltb, ne_eqb}
 use Rattle.prefix_tree.specs.declared.part.Part.{Part}
-use Rattle.twe_machine.specs.Runs.{is_done}
+use Rattle.machine_state.specs.Runs.{is_done}
 use Rattle.twe_program.specs.Program.{Program}
 use Rattle.span_profile.specs.Reasons.{IsReasonFor, IsReasonAt, IsStepAt}
 use Rattle.span_profile.specs.Strands.{Strand, made_task}
@@ -16,7 +16,7 @@ use Rattle.span_profile.specs.declared.reasons.LinkReason.{LinkReason}
 use Rattle.span_profile.specs.declared.reasons.LinkReason.TheVariants.{First}
 use Rattle.span_profile.specs.declared.reasons.ChainStep.{ChainStep}
 use Rattle.span_profile.specs.declared.trail.Last.{Last}
-use Rattle.span_profile.specs.declared.trail.Trail.{Trail}
+use Rattle.span_profile.specs.declared.trail.ChainTrail.{ChainTrail}
 use Rattle.span_profile.specs.heaviest_chain.BestChains.{key_eq}
 use Rattle.span_profile.specs.heaviest_chain.Nodes.{Node}
 use Rattle.span_profile.specs.heaviest_chain.inner.Fronts.{front_after, front_at, no_fronts}
@@ -99,7 +99,7 @@ module _ (fronts new : Fronts) (gives : List Key) (number : ℕ) (low : (key : K
     );
   }
 
-module _ (p : Program) (tree : List (List Part)) (strands : List Strand) (b : Strand) (number : ℕ) (many : length strands ≡ number) (trail : Trail) (is : IsTrail p tree strands trail) where
+module _ (p : Program) (tree : List (List Part)) (strands : List Strand) (b : Strand) (number : ℕ) (many : length strands ≡ number) (trail : ChainTrail) (is : IsTrail p tree strands trail) where
   abbrev all : List Strand
   all = strands ++ b ∷ []
 
@@ -155,7 +155,7 @@ module _ (p : Program) (tree : List (List Part)) (strands : List Strand) (b : St
   }
 
   -- the next entry of the chain
-  module _ (new : Trail) (step : ChainStep) (last : Last) (chain_is : new.chain ≡ trail.chain) (steps_are : new.steps ≡ trail.steps ++ step ∷ []) (last_is : new.last ≡ Some last)
+  module _ (new : ChainTrail) (step : ChainStep) (last : Last) (chain_is : new.chain ≡ trail.chain) (steps_are : new.steps ≡ trail.steps ++ step ∷ []) (last_is : new.last ≡ Some last)
       (next : slice_get trail.chain (length trail.steps) ≡ Some number) (entry : step.entry ≡ number) (task : step.task ≡ b.task) (reason : IsReasonAt p strands trail.chain (length trail.steps) b step.reason)
       (last_number : last.number ≡ number) (last_so : IsLast last b) (low : (key : Key) (top : Top) → front_at new.fronts key ≡ Some top → (top.weight ≡ top.node) × (top.node < number + 1))
       (marked : IsMarked tree new.fronts number b) where
@@ -210,7 +210,7 @@ module _ (p : Program) (tree : List (List Part)) (strands : List Strand) (b : St
     }
 
 -- no entry has come
-pub trail_start : (p : Program) (tree : List (List Part)) (trail : Trail) → ((key : Key) → front_at trail.fronts key ≡ None) → trail.steps ≡ [] → trail.last ≡ None → IsTrail p tree [] trail
+pub trail_start : (p : Program) (tree : List (List Part)) (trail : ChainTrail) → ((key : Key) → front_at trail.fronts key ≡ None) → trail.steps ≡ [] → trail.last ≡ None → IsTrail p tree [] trail
 trail_start p tree trail empty no_steps no_last = record {
   low = λ key top e. let none : None ≡ Some top = sym (empty key) ∙ e in absurd (cc);
   each = λ k step at. let none : None ≡ Some step = nothing k step at in absurd (cc);
@@ -226,15 +226,15 @@ empty_fronts (Value n) = refl
 empty_fronts (Write n) = refl
 empty_fronts (Access n) = refl
 
-pub trail_new : (p : Program) (tree : List (List Part)) (trail : Trail) → trail.fronts ≡ no_fronts → trail.steps ≡ [] → trail.last ≡ None → IsTrail p tree [] trail
+pub trail_new : (p : Program) (tree : List (List Part)) (trail : ChainTrail) → trail.fronts ≡ no_fronts → trail.steps ≡ [] → trail.last ≡ None → IsTrail p tree [] trail
 trail_new p tree trail none no_steps no_last =
     trail_start p tree trail (λ key. ap (λ (f : Fronts). front_at f key) none ∙ empty_fronts key) no_steps no_last
 
 -- why the next entry follows the last one
-pub first_reason : (p : Program) (tree : List (List Part)) (strands : List Strand) (trail : Trail) (b : Strand) → IsKnownLast tree strands trail None → IsReasonAt p strands trail.chain (length trail.steps) b First
+pub first_reason : (p : Program) (tree : List (List Part)) (strands : List Strand) (trail : ChainTrail) (b : Strand) → IsKnownLast tree strands trail None → IsReasonAt p strands trail.chain (length trail.steps) b First
 first_reason p tree strands trail b none = subst (λ (k : ℕ). IsReasonAt p strands trail.chain k b First) (sym none) refl
 
-pub next_reason : (p : Program) (tree : List (List Part)) (strands : List Strand) (trail : Trail) (b : Strand) (last : Last) (reason : LinkReason) → IsKnownLast tree strands trail (Some last)
+pub next_reason : (p : Program) (tree : List (List Part)) (strands : List Strand) (trail : ChainTrail) (b : Strand) (last : Last) (reason : LinkReason) → IsKnownLast tree strands trail (Some last)
     → ((a : Strand) → IsLast last a → IsMarked tree trail.fronts last.number a → IsReasonFor p a b reason) → IsReasonAt p strands trail.chain (length trail.steps) b reason
 next_reason p tree strands trail b last reason l by =
     subst (λ (k : ℕ). IsReasonAt p strands trail.chain k b reason) (sym l.2) (last.number, l.1, l.3, l.4, by l.1 l.5 l.6)

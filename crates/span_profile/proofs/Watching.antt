@@ -3,58 +3,58 @@ use Rattle.std.proofs.Common.{◌≡◌, ◌<◌, inl, inr, ℕ, ℤ, List, [], 
 use Rattle.std.specs.Prelude.{◌↔◌, slice_get, slice_set}
 use Rattle.std.specs.List.{Contains}
 use Rattle.twe_program.specs.Program.{Program}
-use Rattle.seg_exec.specs.declared.frame.Frame.{Frame}
-use Rattle.seg_exec.specs.declared.stop.Stop.{Stop}
-use Rattle.seg_exec.specs.Access.{Access, Reads, Writes, Prints, Agrees, Follows, MayAll, after, value_in, ways_of}
-use Rattle.seg_exec.specs.Plain.{list_ways}
-use Rattle.seg_exec.specs.Segment.{CarriesOut, IsSegment, MayCarryOut, Stopped, segment}
-use Rattle.span_profile.specs.declared.watched.Watched.{Watched}
+use Rattle.seg_meaning.specs.declared.frame.Frame.{Frame}
+use Rattle.seg_meaning.specs.declared.stop.Stop.{Stop}
+use Rattle.seg_meaning.specs.Access.{Access, Reads, Writes, Prints, Agrees, Follows, MayAll, after, value_in, ways_of}
+use Rattle.seg_meaning.specs.Plain.{list_ways}
+use Rattle.seg_meaning.specs.Segment.{CarriesOut, IsSegment, MayCarryOut, Stopped, segment}
+use Rattle.span_profile.specs.declared.watched.WatchedCells.{WatchedCells}
 use Rattle.span_profile.specs.inner.Sets.{no_cells, with_cell}
 use Rattle.span_profile.specs.inner.Watch.{MayTouch, WatchFollows, read_by, watch_knows, written_by}
 use Rattle.span_profile.proofs.Lists.{contains_cases, contains_first, contains_later, contains_none}
 use Rattle.span_profile.proofs.NumberSets.{with_contains}
 
 -- the values are those after the accesses, and the sets have the cells that were accessed
-record HasWatched (old : Watched) (accesses : List Access) (new : Watched) : Type 0 where
+record HasWatched (old : WatchedCells) (accesses : List Access) (new : WatchedCells) : Type 0 where
   agrees : Agrees old.values accesses
   values : new.values ≡ after old.values accesses
   reads : new.reads ≡ read_by accesses old.reads
   writes : new.writes ≡ written_by accesses old.writes
 
-watched_follows : (old : Watched) (accesses : List Access) (new : Watched) → Follows WatchFollows old accesses new → HasWatched old accesses new
+watched_follows : (old : WatchedCells) (accesses : List Access) (new : WatchedCells) → Follows WatchFollows old accesses new → HasWatched old accesses new
 watched_follows old [] new is = record {
   agrees = tt;
-  values = ap (λ (w : Watched). w.values) is;
-  reads = ap (λ (w : Watched). w.reads) is;
-  writes = ap (λ (w : Watched). w.writes) is;
+  values = ap (λ (w : WatchedCells). w.values) is;
+  reads = ap (λ (w : WatchedCells). w.reads) is;
+  writes = ap (λ (w : WatchedCells). w.writes) is;
 }
 watched_follows old (Reads cell value ∷ earlier) new is =
     let before = watched_follows old earlier is.0 is.1 in
     record {
       agrees = (before.agrees, ap (λ (l : List ℤ). value_in (slice_get l cell)) (sym before.values) ∙ is.2.1);
-      values = ap (λ (w : Watched). w.values) is.2.0 ∙ before.values;
-      reads = ap (λ (w : Watched). w.reads) is.2.0 ∙ ap (with_cell cell) before.reads;
-      writes = ap (λ (w : Watched). w.writes) is.2.0 ∙ before.writes;
+      values = ap (λ (w : WatchedCells). w.values) is.2.0 ∙ before.values;
+      reads = ap (λ (w : WatchedCells). w.reads) is.2.0 ∙ ap (with_cell cell) before.reads;
+      writes = ap (λ (w : WatchedCells). w.writes) is.2.0 ∙ before.writes;
     }
 watched_follows old (Writes cell value ∷ earlier) new is =
     let before = watched_follows old earlier is.0 is.1 in
     record {
       agrees = before.agrees;
-      values = ap (λ (w : Watched). w.values) is.2 ∙ ap (λ (l : List ℤ). slice_set l cell value) before.values;
-      reads = ap (λ (w : Watched). w.reads) is.2 ∙ before.reads;
-      writes = ap (λ (w : Watched). w.writes) is.2 ∙ ap (with_cell cell) before.writes;
+      values = ap (λ (w : WatchedCells). w.values) is.2 ∙ ap (λ (l : List ℤ). slice_set l cell value) before.values;
+      reads = ap (λ (w : WatchedCells). w.reads) is.2 ∙ before.reads;
+      writes = ap (λ (w : WatchedCells). w.writes) is.2 ∙ ap (with_cell cell) before.writes;
     }
 watched_follows old (Prints value ∷ earlier) new is =
     let before = watched_follows old earlier new is in
     record { agrees = before.agrees; values = before.values; reads = before.reads; writes = before.writes }
 
 -- A segment over such cells is the segment over their values, and the sets have its cells.
-pub record IsWatched (p : Program) (frame : Frame) (old : Watched) (stop : Stop) (new_frame : Frame) (new : Watched) : Type 0 where
+pub record IsWatched (p : Program) (frame : Frame) (old : WatchedCells) (stop : Stop) (new_frame : Frame) (new : WatchedCells) : Type 0 where
   pub segment_is : IsSegment p frame old.values stop new_frame new.values
   pub reads : new.reads ≡ read_by (segment p frame old.values).accesses old.reads
   pub writes : new.writes ≡ written_by (segment p frame old.values).accesses old.writes
 
-pub watched_segment : (p : Program) (frame new_frame : Frame) (old new : Watched) (stop : Stop) → CarriesOut p WatchFollows frame old stop new_frame new → IsWatched p frame old stop new_frame new
+pub watched_segment : (p : Program) (frame new_frame : Frame) (old new : WatchedCells) (stop : Stop) → CarriesOut p WatchFollows frame old stop new_frame new → IsWatched p frame old stop new_frame new
 watched_segment p frame new_frame old new stop h =
     let w = watched_follows old h.accesses new h.follows in
     let e = h.means old.values w.agrees in
@@ -66,14 +66,14 @@ watched_segment p frame new_frame old new stop h =
     }
 
 -- what may be done to a list of values may be done to such cells
-may_watch : (w : Watched) (cells : List ℤ) (accesses : List Access) → ((cell : ℕ) → cell < length cells → MayTouch w cell) → MayAll list_ways cells accesses
+may_watch : (w : WatchedCells) (cells : List ℤ) (accesses : List Access) → ((cell : ℕ) → cell < length cells → MayTouch w cell) → MayAll list_ways cells accesses
     → MayAll (ways_of watch_knows MayTouch MayTouch WatchFollows) w accesses
 may_watch w cells [] touch may = tt
 may_watch w cells (Reads cell value ∷ earlier) touch may = (touch cell may.0, may_watch w cells earlier touch may.1)
 may_watch w cells (Writes cell value ∷ earlier) touch may = (touch cell may.0, may_watch w cells earlier touch may.1)
 may_watch w cells (Prints value ∷ earlier) touch may = may_watch w cells earlier touch may
 
-pub may_carry_watched : (p : Program) (frame : Frame) (w : Watched) → ((cell : ℕ) → cell < length w.values → MayTouch w cell) → MayCarryOut p list_ways frame w.values
+pub may_carry_watched : (p : Program) (frame : Frame) (w : WatchedCells) → ((cell : ℕ) → cell < length w.values → MayTouch w cell) → MayCarryOut p list_ways frame w.values
     → MayCarryOut p (ways_of watch_knows MayTouch MayTouch WatchFollows) frame w
 may_carry_watched p frame w touch may cells = may_watch w w.values (segment p frame cells).accesses touch (may cells)
 

@@ -5,9 +5,9 @@ use Rattle.seg_journal.specs.declared.moves.Move.{Move}
 use Rattle.seg_journal.specs.Spelling.{move_of}
 use Rattle.twe_base.specs.Limits.{Bounds}
 use Rattle.twe_program.specs.Program.{Program}
-use Rattle.twe_machine.specs.declared.state.State.{State}
-use Rattle.twe_machine.specs.declared.state.TaskRow.{TaskRow}
-use Rattle.twe_machine.specs.Runs.{Legal, counted, state_after}
+use Rattle.machine_state.specs.declared.state.State.{State}
+use Rattle.machine_state.specs.declared.state.TaskRow.{TaskRow}
+use Rattle.machine_state.specs.Runs.{Legal, counted, state_after}
 use Rattle.span_profile.specs.Profiles.{IsProfile}
 use Rattle.span_profile.specs.Totals.{works_from}
 use Rattle.span_profile.specs.declared.totals.TaskWork.{TaskWork}

@@ -1,15 +1,10 @@
 pub mod Advice
-pub mod Chains
-pub mod Graphs
 pub mod LeadsTo
 pub mod Profiles
 pub mod Reasons
 pub mod Recorders
-pub mod Schedules
 pub mod Speed
 pub mod Strands
-pub mod Sums
-pub mod Timetables
 pub mod Totals
 pub mod heaviest_chain
 pub mod inner

@@ -5,8 +5,8 @@ use Rattle.seg_journal.specs.declared.moves.Move.{Move}
 use Rattle.seg_journal.specs.Spelling.{move_of}
 use Rattle.twe_base.specs.Limits.{Bounds}
 use Rattle.twe_program.specs.Program.{Program}
-use Rattle.twe_machine.specs.Runs.{Legal, counted}
-use Rattle.span_profile.specs.Timetables.{AreEarliest}
+use Rattle.machine_state.specs.Runs.{Legal, counted}
+use Rattle.schedules.specs.Timetables.{AreEarliest}
 use Rattle.span_profile.specs.heaviest_chain.Chains.{IsHeaviest, Leads, weight_at}
 use Rattle.span_profile.specs.LeadsTo.{LeadsTo}
 use Rattle.span_profile.specs.Strands.{strands, weight_of}

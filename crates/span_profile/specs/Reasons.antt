@@ -1,15 +1,15 @@
 -- Why an entry of a chain comes after the one before it.
-use Rattle.std.specs.Prelude.{◌≡◌, ◌≢◌, ◌<◌, ◌⊎◌, ◌↔◌, ◌++◌, ℕ, zero, suc, Bool, true, false, List, [], ◌∷◌, Some, IsTrue, length, map, slice_get}
+use Rattle.std.specs.Prelude.{◌≡◌, ◌≢◌, ◌<◌, ◌⊎◌, ◌↔◌, ◌++◌, ℕ, zero, suc, Bool, true, false, List, [], ◌∷◌, Option, None, Some, IsTrue, length, map, slice_get}
 use Rattle.std.specs.List.{Contains}
-use Rattle.effect_sets.specs.Access.{PathAccess}
 use Rattle.region_paths.specs.Concrete.{ConcretePath, region}
 use Rattle.seg_journal.specs.declared.journal.Entry.{Entry}
 use Rattle.seg_journal.specs.declared.moves.Move.{Move}
 use Rattle.seg_journal.specs.Spelling.{move_of}
+use Rattle.seg_meaning.specs.Access.{Access as CellAccess, Reads, Writes, Prints}
 use Rattle.twe_base.specs.Limits.{Bounds}
 use Rattle.twe_program.specs.Program.{Program}
 use Rattle.isolation_laws.specs.soundness.CellPaths.{path_of_cell}
-use Rattle.twe_machine.specs.Runs.{Legal, counted}
+use Rattle.machine_state.specs.Runs.{Legal, counted}
 use Rattle.span_profile.specs.Strands.{Strand, strands}
 use Rattle.span_profile.specs.declared.reasons.LinkReason.{LinkReason}
 use Rattle.span_profile.specs.declared.reasons.LinkReason.TheVariants.{First, GoesOn, Made, Took, Read, Printed, Wrote, Unlinked}
@@ -27,14 +27,30 @@ Touched strand path = Accessed strand true path ⊎ Accessed strand false path
 abbrev pub console_path : ConcretePath
 console_path = region 0 ∷ []
 
--- The path is the first with the property that the entry has accessed in this way. The latest of its accesses stands first in
--- their list.
-pub record IsFirstPath (strand : Strand) (write : Bool) (Has : ConcretePath → Type 0) (path : ConcretePath) : Type 0 where
-  pub later : List PathAccess
-  pub earlier : List PathAccess
-  pub split : strand.accesses ≡ later ++ record { write = write; path = path } ∷ earlier
-  pub has : Has path
-  pub none : (other : ConcretePath) → Contains earlier (record { write = write; path = other }) → ¬ Has other
+-- the cell that an access reads, if it is a read
+abbrev pub read_cell : CellAccess → Option ℕ
+read_cell (Reads cell value) = Some cell
+read_cell (Writes cell value) = None
+read_cell (Prints value) = None
+
+-- the cell that an access writes, if it is a write of a cell
+abbrev pub written_cell : CellAccess → Option ℕ
+written_cell (Reads cell value) = None
+written_cell (Writes cell value) = Some cell
+written_cell (Prints value) = None
+
+-- The cell is the first that the entry has accessed in this way and whose path has the property. The latest of its accesses
+-- stands first in their list.
+pub record IsFirstCell (p : Program) (strand : Strand) (cell_of : CellAccess → Option ℕ) (Has : ConcretePath → Type 0)
+    (cell : ℕ) : Type 0 where
+  pub later : List CellAccess
+  pub access : CellAccess
+  pub earlier : List CellAccess
+  pub split : strand.cells ≡ later ++ access ∷ earlier
+  pub accessed : cell_of access ≡ Some cell
+  pub has : Has (path_of_cell p cell)
+  pub none : (before : CellAccess) (other : ℕ) → Contains earlier before → cell_of before ≡ Some other
+      → ¬ Has (path_of_cell p other)
 
 -- The tasks of two entries do not say why the second follows: it is of another task, which the first has not made, and does not
 -- begin with the value of the task that the first has done.
@@ -59,9 +75,9 @@ PrintsNone a b = Accessed b true console_path → ¬ Touched a console_path
 abbrev pub SaysWhether : Strand → ConcretePath → Bool → Type 0
 SaysWhether a path wrote = IsTrue wrote ↔ Accessed a true path
 
--- Why the second entry follows the first, where the first reason that holds counts. The path of a cell that is named is the
--- first that there is: of those that the second reads and the first has written; then `Console`; then of those that the second
--- writes and the first has accessed.
+-- Why the second entry follows the first, where the first reason that holds counts. A cell that is named is the first that there
+-- is: of those that the second reads and whose path the first has written; then, if there is no write of `Console`, of those that
+-- the second writes and whose path the first has accessed.
 pub data IsReasonFor (p : Program) (a b : Strand) : LinkReason → Type 0 where
   -- they are of one task
   goes_on : a.task ≡ b.task → IsReasonFor p a b GoesOn
@@ -70,13 +86,13 @@ pub data IsReasonFor (p : Program) (a b : Strand) : LinkReason → Type 0 where
   -- the second begins by taking the value of the task that is done by the first
   took : a.task ≢ b.task → a.made ≢ Some b.task → IsTrue a.done → b.taken ≡ Some a.task → IsReasonFor p a b Took
   -- the second reads the path of this cell, which the first wrote
-  read : (cell : ℕ) → IsUntold a b → IsFirstPath b false (Accessed a true) (path_of_cell p cell) → IsReasonFor p a b (Read cell)
+  read : (cell : ℕ) → IsUntold a b → IsFirstCell p b read_cell (Accessed a true) cell → IsReasonFor p a b (Read cell)
   -- the second writes `Console`, as a print does, and the first wrote it or only read it
   printed : (wrote : Bool) → IsUntold a b → ReadsNone a b → Accessed b true console_path → Touched a console_path
       → SaysWhether a console_path wrote → IsReasonFor p a b (Printed wrote)
   -- the second writes the path of this cell, which the first wrote or only read
   wrote : (cell : ℕ) (wrote : Bool) → IsUntold a b → ReadsNone a b → PrintsNone a b
-      → IsFirstPath b true (Touched a) (path_of_cell p cell) → SaysWhether a (path_of_cell p cell) wrote
+      → IsFirstCell p b written_cell (Touched a) cell → SaysWhether a (path_of_cell p cell) wrote
       → IsReasonFor p a b (Wrote cell wrote)
   -- there is no reason
   unlinked : IsUntold a b → ReadsNone a b → WritesNone a b → IsReasonFor p a b Unlinked

@@ -3,7 +3,7 @@ use Rattle.std.specs.Prelude.{◌≡◌, List}
 use Rattle.prefix_tree.specs.declared.part.Part.{Part}
 use Rattle.seg_journal.specs.declared.moves.Move.{Move}
 use Rattle.twe_program.specs.Program.{Program, cell_count}
-use Rattle.twe_machine.specs.declared.state.State.{State}
+use Rattle.machine_state.specs.declared.state.State.{State}
 use Rattle.span_profile.specs.declared.recording.EntryKeys.{EntryKeys}
 use Rattle.span_profile.specs.declared.recording.Recorder.{Recorder}
 use Rattle.span_profile.specs.Strands.{strand_of}

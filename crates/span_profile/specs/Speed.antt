@@ -6,8 +6,8 @@ use Rattle.twe_program.specs.Program.{Program}
 use Rattle.span_profile.specs.LeadsTo.{LeadsTo}
 use Rattle.span_profile.specs.Strands.{strands, weight_of}
 use Rattle.span_profile.specs.heaviest_chain.Chains.{Leads, weight_at}
-use Rattle.span_profile.specs.Schedules.{IsGreedy, IsSchedule, length_of}
-use Rattle.span_profile.specs.Timetables.{IsTimetable, Slot}
+use Rattle.schedules.specs.Schedules.{IsGreedy, IsSchedule, length_of}
+use Rattle.schedules.specs.Timetables.{IsTimetable, Slot}
 
 -- the weight of the entry of this number
 abbrev pub entry_weight : Program → Bounds → List Entry → ℕ → ℕ

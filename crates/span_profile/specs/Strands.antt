@@ -8,23 +8,26 @@ use Rattle.seg_journal.specs.declared.moves.Kind.{Kind}
 use Rattle.seg_journal.specs.declared.moves.Kind.TheVariants.{Admit, Run}
 use Rattle.twe_base.specs.Limits.{Bounds}
 use Rattle.twe_program.specs.Program.{Program}
-use Rattle.seg_exec.specs.Segment.{Stopped}
+use Rattle.seg_meaning.specs.Access.{Access as CellAccess}
+use Rattle.seg_meaning.specs.Segment.{Stopped}
 use Rattle.isolation_laws.specs.soundness.DeclaredNow.{access_of}
-use Rattle.twe_machine.specs.declared.state.State.{State}
-use Rattle.twe_machine.specs.declared.state.TaskRow.{TaskRow}
-use Rattle.twe_machine.specs.Changes.{next_segment}
-use Rattle.twe_machine.specs.Moves.{move_result, start_of}
-use Rattle.twe_machine.specs.Rows.{row_awaited}
-use Rattle.twe_machine.specs.Runs.{is_done}
+use Rattle.machine_state.specs.declared.state.State.{State}
+use Rattle.machine_state.specs.declared.state.TaskRow.{TaskRow}
+use Rattle.machine_state.specs.Changes.{next_segment}
+use Rattle.machine_state.specs.Moves.{move_result, start_of}
+use Rattle.machine_state.specs.Rows.{row_awaited}
+use Rattle.machine_state.specs.Runs.{is_done}
 
 -- What an entry did: its task, its weight, the task that it made, the task whose value it took first, whether its task is
--- done by it, and its accesses by their concrete paths, where a print is a write of `Console`.
+-- done by it, its accesses to cells and its prints, and its accesses by their concrete paths, where a print is a write of
+-- `Console`. Of both lists of accesses the latest stands first.
 pub record Strand : Type 0 where
   pub task : ℕ
   pub weight : ℕ
   pub made : Option ℕ
   pub taken : Option ℕ
   pub done : Bool
+  pub cells : List CellAccess
   pub accesses : List PathAccess
 
 -- the weight of an entry
@@ -38,7 +41,8 @@ made_task _ = None
 
 -- an admission weighs 1
 abbrev pub admission : ℕ → Strand
-admission task = record { task = task; weight = 1; made = None; taken = None; done = false; accesses = [] }
+admission task =
+    record { task = task; weight = 1; made = None; taken = None; done = false; cells = []; accesses = [] }
 
 -- a segment weighs 1, and 1 more for each unit of fuel that it took
 abbrev pub segment_strand : Program → ℕ → TaskRow → Stopped → End → Strand
@@ -48,6 +52,7 @@ segment_strand p task row left end = record {
   made = made_task end;
   taken = row_awaited row.frame.next;
   done = is_done end;
+  cells = left.accesses;
   accesses = map (access_of p) left.accesses;
 }
 

@@ -3,7 +3,7 @@ use Rattle.std.specs.Prelude.{◌≡◌, ◌<◌, ◌≤◌, ◌+◌, ◌-◌, �
 use Rattle.std.specs.List.{All, count_by, fold, sum_by}
 use Rattle.seg_journal.specs.declared.journal.Entry.{Entry}
 use Rattle.twe_base.specs.Language.{max_tasks}
-use Rattle.twe_machine.specs.declared.state.TaskRow.{TaskRow}
+use Rattle.machine_state.specs.declared.state.TaskRow.{TaskRow}
 use Rattle.span_profile.specs.declared.totals.TaskWork.{TaskWork}
 use Rattle.span_profile.specs.declared.totals.TaskTotal.{TaskTotal}
 
@@ -21,6 +21,10 @@ abbrev pub works_from : ℕ → List Entry → ℕ → List TaskRow → List Tas
 works_from fuel journal task [] = []
 works_from fuel journal task (row ∷ rows) =
     record { decl = row.decl; work = work_of fuel journal task row } ∷ works_from fuel journal (suc task) rows
+
+-- the work of a task
+abbrev pub task_work : TaskWork → ℕ
+task_work task = task.work
 
 -- the work of a task if it is of the declaration, and else 0
 abbrev pub work_if : ℕ → TaskWork → ℕ

@@ -1,7 +1,6 @@
 -- What only private clauses and invariants cite.
 pub mod Deeds
 pub mod Numbering
-pub mod Placing
 pub mod Sets
 pub mod Shows
 pub mod Tracked

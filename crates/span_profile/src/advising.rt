@@ -1,8 +1,8 @@
 //! What a run could gain, by its journal.
 ghost use Rattle.std.specs.Prelude.{◌≡◌, ℕ, IfOk, IsErrOf};
-ghost use Rattle.twe_machine.specs.Replays.{IsFirstIllegal};
-ghost use Rattle.twe_machine.specs.declared.legal.Why.{Why as Reason};
-ghost use Rattle.twe_machine.specs.declared.replaying.ReplayFail.TheVariants.{Illegal};
+ghost use Rattle.machine_state.specs.Replays.{IsFirstIllegal};
+ghost use Rattle.machine_state.specs.declared.why.Why.{Why as Reason};
+ghost use Rattle.machine_state.specs.declared.replay_fail.ReplayFail.TheVariants.{Illegal};
 ghost use Rattle.span_profile.specs.Profiles.{HasEarliest};
 ghost use Rattle.span_profile.specs.Reasons.{HasSteps};
 ghost use Rattle.span_profile.specs.Advice.{AreMadeTasks, IsAdvice, parallelism_of};
@@ -11,10 +11,10 @@ ghost use Rattle.span_profile.specs.Totals.{CanBeSummed};
 use crate::counting::counted_run;
 use crate::totals::{TaskWork, task_works};
 use crate::{ChainStep, Profile, explain_chain, profile};
+use machine_state::{ReplayFail, State, TaskRow};
 use seg_journal::{Limits, Move};
 use std::alloc::Global;
 use twe_base::List;
-use twe_machine::{ReplayFail, State, TaskRow};
 use twe_program::Prog;
 
 /// What a run could gain.

@@ -1,18 +1,19 @@
 //! The part of a journal that counts: up to its first fault.
 ghost use Rattle.std.specs.Prelude.{◌≡◌, length, ℕ, IfOk, IsErrOf};
-ghost use Rattle.twe_machine.specs.Runs.{counted, is_fault};
-ghost use Rattle.twe_machine.specs.Replays.{IsFirstIllegal};
-ghost use Rattle.twe_machine.specs.declared.legal.Why.{Why as Reason};
-ghost use Rattle.twe_machine.specs.declared.replaying.ReplayFail.TheVariants.{Illegal};
+ghost use Rattle.machine_state.specs.Runs.{counted, is_fault};
+ghost use Rattle.machine_state.specs.Replays.{IsFirstIllegal};
+ghost use Rattle.machine_state.specs.declared.why.Why.{Why as Reason};
+ghost use Rattle.machine_state.specs.declared.replay_fail.ReplayFail.TheVariants.{Illegal};
 ghost use Rattle.span_profile.specs.Advice.{IsCountedRun};
 
+use machine_state::{ReplayFail, State};
 use seg_journal::{End, Entry, Journal, Limits, Move};
 use std::alloc::Global;
-use twe_machine::{ReplayFail, State, replay_journal};
+use twe_machine::replay_journal;
 use twe_program::Prog;
 
 /// Whether a move with this end met a fault.
-fn is_fault(end: End) -> bool
+pub fn is_fault(end: End) -> bool
     ensures { result ≡ is_fault end }
 {
     matches!(end, End::Fault { .. })

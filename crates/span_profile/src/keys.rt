@@ -4,7 +4,7 @@ ghost use Rattle.span_profile.specs.inner.Deeds.{access_keys, asked, end_keys, g
 
 use crate::deed::Deed;
 use crate::heaviest_chain::Key;
-use crate::places::Places;
+use crate::places::NumberedPaths;
 use seg_journal::End;
 use std::alloc::Global;
 use twe_base::{List, Memory};
@@ -13,7 +13,7 @@ use twe_base::{List, Memory};
 pub(crate) type Keys = List<Key>;
 
 /// Adds for each cell the key of what its place was last given.
-fn push_writes(keys: &mut Keys, places: &Places, cells: &[u32]) -> Result<(), Memory>
+fn push_writes(keys: &mut Keys, places: &NumberedPaths, cells: &[u32]) -> Result<(), Memory>
     ensures { OnOk result (keys.new ≡ keys.old ++ write_keys places.now cells.now) }
 {
     for cell in cells {
@@ -23,7 +23,7 @@ fn push_writes(keys: &mut Keys, places: &Places, cells: &[u32]) -> Result<(), Me
 }
 
 /// Adds for each cell the key of any access to its place.
-fn push_accesses(keys: &mut Keys, places: &Places, cells: &[u32]) -> Result<(), Memory>
+fn push_accesses(keys: &mut Keys, places: &NumberedPaths, cells: &[u32]) -> Result<(), Memory>
     ensures { OnOk result (keys.new ≡ keys.old ++ access_keys places.now cells.now) }
 {
     for cell in cells {
@@ -57,7 +57,7 @@ fn push_end(keys: &mut Keys, task: u32, end: End) -> Result<(), Memory>
 /// wrote, and of `Console` if it printed.
 pub(crate) fn asked(
     alloc: Global,
-    places: &Places,
+    places: &NumberedPaths,
     deed: &Deed,
     reads: &[u32],
     writes: &[u32],
@@ -79,7 +79,7 @@ pub(crate) fn asked(
 /// the places that it read and wrote, and of `Console` if it printed.
 pub(crate) fn given(
     alloc: Global,
-    places: &Places,
+    places: &NumberedPaths,
     deed: &Deed,
     reads: &[u32],
     writes: &[u32],

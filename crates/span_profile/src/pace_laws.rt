@@ -3,10 +3,10 @@ ghost use Rattle.std.specs.Prelude.{◌≡◌, ◌<◌, ◌≤◌, ◌+◌, ◌*
 ghost use Rattle.seg_journal.specs.declared.moves.Move.{Move};
 ghost use Rattle.twe_base.specs.Limits.{Bounds};
 ghost use Rattle.twe_program.specs.Program.{Program};
-ghost use Rattle.twe_machine.specs.Runs.{counted};
+ghost use Rattle.machine_state.specs.Runs.{counted};
 ghost use Rattle.span_profile.specs.Profiles.{HasEarliest, IsProfile};
-ghost use Rattle.span_profile.specs.Schedules.{least_time};
-ghost use Rattle.span_profile.specs.Timetables.{IsPacedTime, Slot, time_of};
+ghost use Rattle.schedules.specs.Schedules.{least_time};
+ghost use Rattle.schedules.specs.Timetables.{IsPacedTime, Slot, time_of};
 ghost use Rattle.span_profile.specs.Speed.{IsGreedyRun, IsRunSchedule, IsRunTimetable, run_time};
 
 /// No schedule of the entries of a run that keeps their order is shorter than the least time.

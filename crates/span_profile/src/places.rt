@@ -13,14 +13,14 @@ use twe_program::{CellDecl, Dims, Prog};
 
 /// For each cell the number of its concrete path, and the number of the path of `Console`.
 #[derive(Debug, Drop)]
-pub(crate) struct Places {
+pub(crate) struct NumberedPaths {
     /// The numbers of the cells.
     pub cells: List<u32>,
     /// The number of `Console`.
     pub console: u32,
 }
 
-impl Places {
+impl NumberedPaths {
     /// The number of a cell's path, and 0 if there is no such cell.
     pub(crate) fn of(&self, cell: u32) -> u32
         ensures { result ≡ place_of self.now cell }
@@ -95,7 +95,7 @@ fn add_cells(
 }
 
 /// The numbers of the paths of a program's cells, and of `Console`.
-pub(crate) fn number_places(alloc: Global, p: &Prog) -> Result<Places, Memory>
+pub(crate) fn number_places(alloc: Global, p: &Prog) -> Result<NumberedPaths, Memory>
     ensures { IfOk result (ArePlaces p.now) }
 {
     let mut tree = PrefixTree::new(alloc)?;
@@ -105,5 +105,5 @@ pub(crate) fn number_places(alloc: Global, p: &Prog) -> Result<Places, Memory>
         add_cells(alloc, &mut tree, &mut cells, decl)?;
     }
     let _nodes = tree.len();
-    Ok(Places { cells, console })
+    Ok(NumberedPaths { cells, console })
 }

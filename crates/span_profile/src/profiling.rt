@@ -1,12 +1,12 @@
 //! The profile of a list of moves.
 ghost use Rattle.std.specs.Prelude.{◌≡◌, ◌<◌, ◌||◌, true, false, ◌+◌, ◌++◌, ◌∷◌, [], ℕ, length, map, IfOk, OnOk, IsErrOf};
 ghost use Rattle.seg_journal.specs.Spelling.{move_of};
-ghost use Rattle.twe_machine.specs.declared.legal.Why.{Why as Reason};
-ghost use Rattle.twe_machine.specs.declared.replaying.ReplayFail.TheVariants.{Illegal};
-ghost use Rattle.twe_machine.specs.Legal.{Forbids, MayMove};
-ghost use Rattle.twe_machine.specs.Moves.{move_result};
-ghost use Rattle.twe_machine.specs.Replays.{IsFirstIllegal};
-ghost use Rattle.twe_machine.specs.Runs.{IsReached, is_fault};
+ghost use Rattle.machine_state.specs.declared.why.Why.{Why as Reason};
+ghost use Rattle.machine_state.specs.declared.replay_fail.ReplayFail.TheVariants.{Illegal};
+ghost use Rattle.machine_state.specs.Legal.{Forbids, MayMove};
+ghost use Rattle.machine_state.specs.Moves.{move_result};
+ghost use Rattle.machine_state.specs.Replays.{IsFirstIllegal};
+ghost use Rattle.machine_state.specs.Runs.{IsReached, is_fault};
 ghost use Rattle.twe_program.specs.Program.{cell_count};
 ghost use Rattle.span_profile.specs.Profiles.{HasEarliest, IsProfile};
 ghost use Rattle.span_profile.specs.Reasons.{HasSteps};
@@ -17,18 +17,20 @@ ghost use Rattle.span_profile.specs.inner.Sets.{no_cells};
 ghost use Rattle.span_profile.specs.inner.Tracked.{IsTracked};
 
 use crate::cell_set::CellSet;
+use crate::counting::is_fault;
 use crate::deed::{Deed, admission};
 use crate::heaviest_chain::{Chains, Heaviest};
 use crate::keys::{asked, given};
-use crate::places::{Places, number_places};
+use crate::places::{NumberedPaths, number_places};
 use crate::reasons::ChainStep;
 use crate::running::run;
-use crate::trail::Trail;
-use crate::watched::Watched;
-use seg_journal::{End, Entry, Journal, Kind, Limits, Move};
+use crate::trail::ChainTrail;
+use crate::watched::WatchedCells;
+use machine_state::{ReplayFail, State};
+use seg_journal::{Entry, Journal, Kind, Limits, Move};
 use std::alloc::Global;
 use twe_base::{Ints, List, Memory};
-use twe_machine::{EnabledTasks, ReplayFail, State, start, step};
+use twe_machine::{EnabledTasks, start, step};
 use twe_program::Prog;
 
 /// A run with its journal so far, the chains of the entries of its counted part, and the steps of a chain of them.
@@ -40,10 +42,10 @@ struct Tracked {
     journal: Journal,
     /// Whether an entry has met a fault: the entries after it do not count.
     over: bool,
-    places: Places,
-    watched: Watched,
+    places: NumberedPaths,
+    watched: WatchedCells,
     chains: Chains,
-    trail: Trail,
+    trail: ChainTrail,
 }
 
 impl Tracked {
@@ -62,13 +64,13 @@ impl Tracked {
             journal: Journal::new(alloc),
             over: false,
             places: number_places(alloc, p)?,
-            watched: Watched {
+            watched: WatchedCells {
                 values: Ints::new(alloc),
                 reads: CellSet::new(alloc, size)?,
                 writes: CellSet::new(alloc, size)?,
             },
             chains: Chains::new(alloc),
-            trail: Trail::new(alloc, chain),
+            trail: ChainTrail::new(alloc, chain),
         })
     }
 
@@ -108,19 +110,12 @@ impl Tracked {
     }
 }
 
-/// Whether an entry with this end has met a fault.
-fn is_fault(end: End) -> bool
-    ensures { result ≡ is_fault end }
-{
-    matches!(end, End::Fault { .. })
-}
-
 /// Adds an entry that has done this to the chains.
 fn add_entry(
     alloc: Global,
     chains: &mut Chains,
-    places: &Places,
-    watched: &Watched,
+    places: &NumberedPaths,
+    watched: &WatchedCells,
     deed: &Deed,
 ) -> Result<(), Memory>
     requires some { 0 < deed.now.weight }
@@ -140,8 +135,8 @@ fn count_entry(
     alloc: Global,
     over: bool,
     chains: &mut Chains,
-    places: &Places,
-    watched: &Watched,
+    places: &NumberedPaths,
+    watched: &WatchedCells,
     deed: &Deed,
 ) -> Result<bool, Memory>
     requires some { 0 < deed.now.weight }
@@ -165,7 +160,7 @@ pub(crate) fn advance(
     lim: Limits,
     st: &mut State,
     mv: Move,
-    watched: &mut Watched,
+    watched: &mut WatchedCells,
 ) -> Result<Deed, Memory>
     requires reached { IsReached p.now lim st.old }
     requires legal { MayMove st.old mv }
@@ -235,6 +230,6 @@ pub fn explain_chain(
     let followed = List::from_slice(alloc, chain)?;
     let run = track(alloc, p, lim, moves, followed)?;
     let Tracked { trail, .. } = run;
-    let Trail { steps, .. } = trail;
+    let ChainTrail { steps, .. } = trail;
     Ok(steps)
 }

@@ -1,22 +1,22 @@
 //! What the entries of a run ask for and give, one after another.
 ghost use Rattle.std.specs.Prelude.{◌≡◌, ◌<◌, List, IfOk, OnOk};
 ghost use Rattle.prefix_tree.specs.declared.part.Part.{Part};
-ghost use Rattle.twe_machine.specs.Legal.{MayMove};
-ghost use Rattle.twe_machine.specs.Moves.{move_result};
-ghost use Rattle.twe_machine.specs.Runs.{IsReached};
+ghost use Rattle.machine_state.specs.Legal.{MayMove};
+ghost use Rattle.machine_state.specs.Moves.{move_result};
+ghost use Rattle.machine_state.specs.Runs.{IsReached};
 ghost use Rattle.twe_program.specs.Program.{cell_count};
 ghost use Rattle.span_profile.specs.Recorders.{HasKeysOf, IsRecorder, Records};
 
 use crate::cell_set::CellSet;
 use crate::heaviest_chain::Key;
 use crate::keys::{asked, given};
-use crate::places::{Places, number_places};
+use crate::places::{NumberedPaths, number_places};
 use crate::profiling::advance;
-use crate::watched::Watched;
+use crate::watched::WatchedCells;
+use machine_state::State;
 use seg_journal::{End, Limits, Move};
 use std::alloc::Global;
 use twe_base::{Ints, List, Memory};
-use twe_machine::State;
 use twe_program::Prog;
 
 /// What an entry asks for and gives. It leads to a later one that asks for a key which it gives.
@@ -36,9 +36,9 @@ pub struct EntryKeys {
 #[derive(Debug, Drop)]
 pub struct Recorder {
     /// The numbers of the paths of cells.
-    places: Places,
+    places: NumberedPaths,
     /// The cells that an entry under way has read and written.
-    watched: Watched,
+    watched: WatchedCells,
 }
 
 impl Recorder {
@@ -50,7 +50,7 @@ impl Recorder {
         let _main = p.main;
         Ok(Recorder {
             places: number_places(alloc, p)?,
-            watched: Watched {
+            watched: WatchedCells {
                 values: Ints::new(alloc),
                 reads: CellSet::new(alloc, cells)?,
                 writes: CellSet::new(alloc, cells)?,

@@ -1,21 +1,22 @@
 //! Running one segment of a task over cells that record what it reads and writes.
 ghost use Rattle.std.specs.Prelude.{◌≡◌, ◌<◌, ◌^◌, [], length, IfOk, slice_get};
 ghost use Rattle.twe_program.specs.Program.{cell_count};
-ghost use Rattle.twe_machine.specs.declared.state.TaskRow.{TaskRow};
-ghost use Rattle.twe_machine.specs.Moves.{ran};
-ghost use Rattle.twe_machine.specs.Rows.{IsRow, row_awaited};
-ghost use Rattle.twe_machine.specs.inner.Settling.{SettlesAfter};
+ghost use Rattle.machine_state.specs.declared.state.TaskRow.{TaskRow};
+ghost use Rattle.machine_state.specs.Moves.{ran};
+ghost use Rattle.machine_state.specs.Rows.{IsRow, row_awaited};
+ghost use Rattle.machine_state.specs.inner.Settling.{SettlesAfter};
 ghost use Rattle.span_profile.specs.inner.Deeds.{HasDone};
 ghost use Rattle.span_profile.specs.inner.Sets.{no_cells};
 
 use crate::deed::Deed;
-use crate::watched::Watched;
+use crate::watched::WatchedCells;
+use machine_state::State;
 use seg_exec::run_segment;
 use seg_journal::Limits;
 use std::alloc::Global;
 use std::mem;
 use twe_base::Memory;
-use twe_machine::{State, awaited, settle, take_ready};
+use twe_machine::{awaited, settle, take_ready};
 use twe_program::Prog;
 
 /// The task whose value the next segment of a task takes, if it takes one.
@@ -36,7 +37,7 @@ pub(crate) fn run(
     lim: Limits,
     st: &mut State,
     t: u32,
-    watched: &mut Watched,
+    watched: &mut WatchedCells,
 ) -> Result<Deed, Memory>
     requires there { t < length st.old.tasks }
     requires cells { length st.old.cells ≡ cell_count p.now }

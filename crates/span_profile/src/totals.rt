@@ -2,10 +2,10 @@
 ghost use Rattle.std.specs.Prelude.{◌≡◌, ◌<◌, ◌+◌, ◌==◌, ◌^◌, ℕ, length, slice_index, if◌then◌else◌, IfOk};
 ghost use Rattle.span_profile.specs.Totals.{CanBeSummed, entries_of, total_of, with_work, works_from};
 
+use machine_state::TaskRow;
 use seg_journal::Entry;
 use std::alloc::Global;
 use twe_base::{List, Memory};
-use twe_machine::TaskRow;
 
 /// What a task took.
 #[derive(Clone, Copy, Debug, PartialEq, Eq)]

@@ -8,7 +8,7 @@ ghost use Rattle.span_profile.specs.inner.Deeds.{node_of};
 ghost use Rattle.span_profile.specs.inner.Numbering.{ArePlaces, place_of};
 ghost use Rattle.span_profile.specs.inner.Shows.{Shows};
 ghost use Rattle.span_profile.specs.inner.Trails.{IsEntryOf, IsFirstThat, IsLast, IsMarked, IsTrail, gave, gave_cell, key_for};
-ghost use Rattle.twe_machine.specs.Runs.{is_done};
+ghost use Rattle.machine_state.specs.Runs.{is_done};
 ghost use Rattle.twe_program.specs.Program.{Program};
 
 use crate::deed::Deed;
@@ -16,9 +16,9 @@ use crate::heaviest_chain::fronts::Fronts;
 use crate::heaviest_chain::key::Key;
 use crate::heaviest_chain::top::Top;
 use crate::keys::given;
-use crate::places::Places;
+use crate::places::NumberedPaths;
 use crate::reasons::{ChainStep, LinkReason};
-use crate::watched::Watched;
+use crate::watched::WatchedCells;
 use seg_journal::End;
 use std::alloc::Global;
 use twe_base::{List, Memory};
@@ -38,7 +38,7 @@ pub(crate) struct Last {
 
 /// The entries of a chain, and the steps of those that have come.
 #[derive(Debug, Drop)]
-pub(crate) struct Trail {
+pub(crate) struct ChainTrail {
     /// The numbers of the entries of the chain.
     pub chain: List<u64>,
     /// The steps of those that have come.
@@ -73,7 +73,7 @@ fn key_for(reads: bool, place: u32) -> Key
 /// The first of the cells for which the entry of this number gave what a reader asks for, or a writer.
 fn first_given(
     fronts: &Fronts,
-    places: &Places,
+    places: &NumberedPaths,
     reads: bool,
     number: u64,
     cells: &[u32],
@@ -89,7 +89,7 @@ fn first_given(
 }
 
 /// Whether one of the cells is of this place.
-fn some_at(places: &Places, place: u32, cells: &[u32]) -> bool
+fn some_at(places: &NumberedPaths, place: u32, cells: &[u32]) -> bool
     ensures { result ≡ list_any (λ cell. place_of places.now cell == place) cells.now }
 {
     for cell in cells {
@@ -101,7 +101,7 @@ fn some_at(places: &Places, place: u32, cells: &[u32]) -> bool
 }
 
 /// Whether an entry that did this wrote `Console`.
-fn writes_console(places: &Places, deed: &Deed, watched: &Watched) -> bool
+fn writes_console(places: &NumberedPaths, deed: &Deed, watched: &WatchedCells) -> bool
     ensures { result ≡ (deed.now.printed
         || list_any (λ cell. place_of places.now cell == places.now.console) watched.now.writes.items) }
 {
@@ -111,9 +111,9 @@ fn writes_console(places: &Places, deed: &Deed, watched: &Watched) -> bool
 /// Why an entry that did this follows one of this number, by a write of `Console` or of a cell.
 fn reason_by_writes(
     fronts: &Fronts,
-    places: &Places,
+    places: &NumberedPaths,
     deed: &Deed,
-    watched: &Watched,
+    watched: &WatchedCells,
     number: u64,
 ) -> LinkReason
     ensures { (p : Program) (are : ArePlaces p places.now) (a b : Strand) → IsEntryOf p places.now deed.now watched.now b
@@ -137,9 +137,9 @@ fn reason_by_writes(
 /// Why an entry that did this follows one of this number, by a path that both accessed.
 fn reason_by_paths(
     fronts: &Fronts,
-    places: &Places,
+    places: &NumberedPaths,
     deed: &Deed,
-    watched: &Watched,
+    watched: &WatchedCells,
     number: u64,
 ) -> LinkReason
     ensures { (p : Program) (are : ArePlaces p places.now) (a b : Strand) → IsEntryOf p places.now deed.now watched.now b
@@ -205,9 +205,9 @@ fn last_of(number: u64, deed: &Deed) -> Last
 /// Why an entry that did this follows the last one.
 fn reason_after(
     fronts: &Fronts,
-    places: &Places,
+    places: &NumberedPaths,
     deed: &Deed,
-    watched: &Watched,
+    watched: &WatchedCells,
     last: Last,
 ) -> LinkReason
     ensures { (p : Program) (are : ArePlaces p places.now) (a b : Strand) → IsEntryOf p places.now deed.now watched.now b
@@ -219,14 +219,14 @@ fn reason_after(
     }
 }
 
-impl Trail {
+impl ChainTrail {
     /// A chain none of whose entries has come.
     #[tactic(auto, using(crate::proofs::TrailSteps::trail_new))]
     pub(crate) fn new(alloc: Global, chain: List<u64>) -> Self
         ensures trail { (p : Program) (tree : List (List Part)) → IsTrail p tree [] result }
         ensures chain { result.chain ≡ chain }
     {
-        Trail {
+        ChainTrail {
             chain,
             steps: List::new(alloc),
             last: None,
@@ -245,7 +245,7 @@ impl Trail {
     }
 
     /// Why an entry that did this follows the last one that has come, if one has.
-    fn reason(&self, places: &Places, deed: &Deed, watched: &Watched) -> LinkReason
+    fn reason(&self, places: &NumberedPaths, deed: &Deed, watched: &WatchedCells) -> LinkReason
         ensures { (p : Program) (are : ArePlaces p places.now) (strands : List Strand) (b : Strand)
             → IsEntryOf p places.now deed.now watched.now b → IsTrail p are.nodes strands self.now
             → IsReasonAt p strands self.now.chain (length self.now.steps) b result }
@@ -261,9 +261,9 @@ impl Trail {
         &mut self,
         alloc: Global,
         number: u64,
-        places: &Places,
+        places: &NumberedPaths,
         deed: &Deed,
-        watched: &Watched,
+        watched: &WatchedCells,
     ) -> Result<(), Memory>
         requires next { slice_get self.old.chain (length self.old.steps) ≡ Some number }
         ensures chain { OnOk result (self.new.chain ≡ self.old.chain) }
@@ -295,9 +295,9 @@ impl Trail {
         alloc: Global,
         over: bool,
         number: u64,
-        places: &Places,
+        places: &NumberedPaths,
         deed: &Deed,
-        watched: &Watched,
+        watched: &WatchedCells,
     ) -> Result<(), Memory>
         ensures chain { OnOk result (self.new.chain ≡ self.old.chain) }
         ensures kept { OnOk result (over ≡ true → self.new ≡ self.old) }

@@ -2,12 +2,12 @@
 ghost use Rattle.span_profile.specs.inner.Watch.{MayTouch, WatchFollows, watch_knows};
 
 use crate::cell_set::CellSet;
-use seg_exec::Cells;
+use seg_meaning::Cells;
 use twe_base::Ints;
 
 /// The values of the cells, with the cells that were read and those that were written.
 #[derive(Debug, Drop)]
-pub(crate) struct Watched {
+pub(crate) struct WatchedCells {
     /// The values.
     pub values: Ints,
     /// The cells that were read.
@@ -17,7 +17,7 @@ pub(crate) struct Watched {
 }
 
 /// Each cell is known, and may be read and written. A read or a write adds the cell to its set.
-impl Cells for Watched {
+impl Cells for WatchedCells {
     ghost known = { watch_knows };
 
     ghost may_read = { MayTouch };

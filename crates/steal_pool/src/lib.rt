@@ -7,6 +7,7 @@
 
 mod deck;
 mod decks;
+pub mod gates;
 mod law;
 mod laws;
 mod other;

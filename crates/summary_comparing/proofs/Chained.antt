@@ -13,8 +13,8 @@ use Rattle.region_paths.specs.declared.elements.Elem.{Elem}
 use Rattle.effect_sets.specs.declared.effects.Summary.{Summary}
 use Rattle.effect_sets.specs.Filled.{fill_effect}
 use Rattle.twe_program.specs.Program.{Program}
-use Rattle.effect_infer.specs.declared.needs.need.Step.{Step}
-use Rattle.effect_infer.specs.declared.needs.need.Step.TheVariants.{Touch, Call}
+use Rattle.effect_infer.specs.declared.needs.need.BodyStep.{BodyStep}
+use Rattle.effect_infer.specs.declared.needs.need.BodyStep.TheVariants.{Touch, Call}
 use Rattle.effect_infer.specs.needs.Needs.{IsNeed}
 use Rattle.effect_infer.proofs.needs.Relation.{get-in}
 use Rattle.summary_comparing.specs.Needed.{called_needs, said_effect, said_needs}
@@ -105,14 +105,14 @@ module _ (params : ℕ) (args : List Elem) (summary : Summary) (effect : Effect)
 -- in the body of a declaration
 module _ (p : Program) (decl : Decl) (effect : Effect) where
   -- each step has a place
-  pub place-within : (at : ℕ) (step : Step) → slice_get (steps_in_all p.cells decl.body.block) at ≡ Some step
+  pub place-within : (at : ℕ) (step : BodyStep) → slice_get (steps_in_all p.cells decl.body.block) at ≡ Some step
       → at < length (step_places (acts_in_all p decl.body.block))
   place-within at step is =
       let found = body-place p decl at step is in
       slice_get_within (step_places (acts_in_all p decl.body.block)) at found.place found.place_there
 
   -- a chain from a step is one from the body
-  pub placed-chain : (summaries : List Summary) (at : ℕ) (step : Step) (place : Place) (chain : NeedChain)
+  pub placed-chain : (summaries : List Summary) (at : ℕ) (step : BodyStep) (place : Place) (chain : NeedChain)
       → slice_get (steps_in_all p.cells decl.body.block) at ≡ Some step
       → slice_get (step_places (acts_in_all p decl.body.block)) at ≡ Some place
       → IsStepChain p summaries decl.params effect place step chain → IsNeedChain p summaries decl effect chain
@@ -124,7 +124,7 @@ module _ (p : Program) (decl : Decl) (effect : Effect) where
   }
 
   -- some step needs what the body needs, or an equal one does, by its number
-  module _ (summaries : List Summary) (steps : List Step) (numbers : List ℕ) (all : steps ≡ steps_in_all p.cells decl.body.block)
+  module _ (summaries : List Summary) (steps : List BodyStep) (numbers : List ℕ) (all : steps ≡ steps_in_all p.cells decl.body.block)
       (each : HasEach steps numbers) (there : Contains (body_needs p summaries decl) effect) where
     some-number : (number : ℕ) × (slice_get numbers (steps_before summaries decl.params steps numbers effect) ≡ Some number)
         × IsIn effect (numbered_needs summaries decl.params steps number)
@@ -132,7 +132,7 @@ module _ (p : Program) (decl : Decl) (effect : Effect) where
         let needs = flat_map (numbered_needs summaries decl.params steps) numbers in
         source-found (numbered_needs summaries decl.params steps) numbers effect
         (contains-in needs effect ((numbered-same summaries decl.params steps numbers each).in_these effect
-        (subst (λ (xs : List Step). Contains (flat_map (said_needs summaries decl.params) xs) effect) (sym all) there)))
+        (subst (λ (xs : List BodyStep). Contains (flat_map (said_needs summaries decl.params) xs) effect) (sym all) there)))
 
     pub number-within : (at : ℕ) → at ≡ steps_before summaries decl.params steps numbers effect → at < length numbers
     number-within at is = slice_get_within numbers at some-number.0 (ap (slice_get numbers) is ∙ some-number.1)

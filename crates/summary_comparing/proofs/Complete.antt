@@ -8,13 +8,13 @@ use Rattle.region_paths.specs.declared.elements.Elem.{Elem}
 use Rattle.twe_program.specs.declared.program.Decl.{Decl}
 use Rattle.twe_program.specs.Program.{Program}
 use Rattle.effect_infer.specs.declared.needs.need.Need.{Need}
-use Rattle.effect_infer.specs.declared.needs.need.Step.{Step}
-use Rattle.effect_infer.specs.declared.needs.need.Step.TheVariants.{Touch, Call}
+use Rattle.effect_infer.specs.declared.needs.need.BodyStep.{BodyStep}
+use Rattle.effect_infer.specs.declared.needs.need.BodyStep.TheVariants.{Touch, Call}
 use Rattle.effect_infer.specs.needs.Steps.{steps_in_all}
 use Rattle.effect_infer.specs.needs.Needs.{IsNeed, own, called, filled_need, settled, settled_elem}
 use Rattle.effect_infer.proofs.needs.Leastness.{need-decl}
 use Rattle.summary_comparing.specs.declared.bodies.BodySteps.{BodySteps}
-use Rattle.summary_comparing.specs.declared.states.State.{State}
+use Rattle.summary_comparing.specs.declared.states.SearchState.{SearchState}
 use Rattle.summary_comparing.specs.Placed.{all_bodies, body_steps}
 use Rattle.summary_comparing.specs.inner.Standing.{callee_values, is_match}
 use Rattle.summary_comparing.specs.inner.Search.{AreLinked, IsDoneWith, IsStarted}
@@ -35,15 +35,15 @@ need-said p m need decl (called n its callee args inner has needed) there =
     let same : its ≡ decl = same_Some _ _ (sym has.0 ∙ there) in
     subst (λ (d : Decl). AreSaid d.params (map (settled_elem its.params) (filled_need args inner).elems)) same (settled-said its.params (filled_need args inner).elems)
 
-module _ (p : Program) (target : Need) (states : List State)
-    (done : (at : ℕ) (state : State) → slice_get states at ≡ Some state → IsDoneWith (all_bodies p) target states state) where
+module _ (p : Program) (target : Need) (states : List SearchState)
+    (done : (at : ℕ) (state : SearchState) → slice_get states at ≡ Some state → IsDoneWith (all_bodies p) target states state) where
   -- the body of a method in a state
-  here-done : (m : ℕ) (decl : Decl) (at : ℕ) (state : State) → slice_get p.methods m ≡ Some decl → slice_get states at ≡ Some state → state.method ≡ m
+  here-done : (m : ℕ) (decl : Decl) (at : ℕ) (state : SearchState) → slice_get p.methods m ≡ Some decl → slice_get states at ≡ Some state → state.method ≡ m
       → slice_get (all_bodies p) state.method ≡ Some (body_steps p decl)
   here-done m decl at state is there method = ap (slice_get (all_bodies p)) method ∙ mapped-at (body_steps p) p.methods m decl is
 
   pub never-matches : (m : ℕ) (need : Need) → IsNeed p m need → (decl : Decl) → slice_get p.methods m ≡ Some decl
-      → (at : ℕ) (state : State) → slice_get states at ≡ Some state → state.method ≡ m → length state.values ≡ decl.params
+      → (at : ℕ) (state : SearchState) → slice_get states at ≡ Some state → state.method ≡ m → length state.values ≡ decl.params
       → is_match state.values need target ≡ true → ⊥
   never-matches m need (own n its step has) decl is at state there method long matches =
       let same : its ≡ decl = same_Some _ _ (sym has.0 ∙ is) in
@@ -66,8 +66,8 @@ module _ (p : Program) (target : Need) (states : List State)
       (ap (λ (vs : List (Option Elem)). is_match vs inner target) listed.4 ∙ (carried ∙ matches))
 
 -- in the first state the need stands for itself
-pub not-needed : (p : Program) (method : ℕ) (target : Need) (states : List State) → IsStarted (all_bodies p) method states
-    → ((at : ℕ) (state : State) → slice_get states at ≡ Some state → IsDoneWith (all_bodies p) target states state) → ¬ IsNeed p method target
+pub not-needed : (p : Program) (method : ℕ) (target : Need) (states : List SearchState) → IsStarted (all_bodies p) method states
+    → ((at : ℕ) (state : SearchState) → slice_get states at ≡ Some state → IsDoneWith (all_bodies p) target states state) → ¬ IsNeed p method target
 not-needed p method target states started done needed =
     let decl = need-decl p method target needed in
     let body_is : started.body ≡ body_steps p decl.0 = same_Some _ _ (sym started.body_there ∙ mapped-at (body_steps p) p.methods method decl.0 decl.1) in

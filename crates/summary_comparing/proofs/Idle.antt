@@ -6,7 +6,7 @@ use Rattle.twe_base.proofs.Members.{contains-in, in-list_any, or-true, true-or}
 use Rattle.effect_sets.specs.declared.effects.Effect.{Effect}
 use Rattle.effect_sets.specs.Covers.{effect_covers}
 use Rattle.summary_comparing.specs.Comparisons.{is_needed, needed_effects}
-use Rattle.summary_comparing.specs.Widest.{is_over, is_under}
+use Rattle.summary_comparing.specs.Widest.{covers_some, is_under}
 
 -- one more, or not
 under-more : (b : Bool) (e need : Effect) (rest : List Effect) → is_under rest need ≡ true → is_under (if b then e ∷ rest else rest) need ≡ true
@@ -26,8 +26,8 @@ module _ (body children : List Effect) (need : Effect) (is : (e : Effect) → ef
 
 pub needed-by-body : (body children : List Effect) (need e : Effect) → Contains body need → effect_covers e need ≡ true → is_needed body children e ≡ true
 needed-by-body body children need e c h =
-    true-or (is_over body e) (is_over children e) (inl (in-list_any (λ narrow. effect_covers e narrow) body need (contains-in body need c) h))
+    true-or (covers_some body e) (covers_some children e) (inl (in-list_any (λ narrow. effect_covers e narrow) body need (contains-in body need c) h))
 
 pub needed-by-child : (body children : List Effect) (need e : Effect) → Contains children need → effect_covers e need ≡ true → is_needed body children e ≡ true
 needed-by-child body children need e c h =
-    true-or (is_over body e) (is_over children e) (inr (in-list_any (λ narrow. effect_covers e narrow) children need (contains-in children need c) h))
+    true-or (covers_some body e) (covers_some children e) (inr (in-list_any (λ narrow. effect_covers e narrow) children need (contains-in children need c) h))

@@ -7,7 +7,7 @@ use Rattle.twe_base.specs.Language.{max_effects}
 use Rattle.twe_base.proofs.Members.{IsIn, in-left, in-right, in-cases, contains-in, in-contains, list_any-in, in-list_any}
 use Rattle.effect_sets.specs.declared.effects.Effect.{Effect}
 use Rattle.effect_sets.specs.Covers.{effect_covers}
-use Rattle.summary_comparing.specs.Widest.{AreFewWidest, AreUnrelated, HasManyWidest, is_over, is_under, not_under}
+use Rattle.summary_comparing.specs.Widest.{AreFewWidest, AreUnrelated, HasManyWidest, covers_some, is_under, not_under}
 use Rattle.summary_comparing.specs.inner.Keeping.{IsTopAmong, KeepsWidest}
 use Rattle.summary_comparing.proofs.Covers.{cover-trans}
 
@@ -28,11 +28,11 @@ none-any p xs none = elim (cases_Bool (list_any p xs)) [
   | inr fails ↦ fails
 ]
 
-unrelated-push : (xs : List Effect) (t : Effect) → AreUnrelated xs → is_under xs t ≡ false → is_over xs t ≡ false → AreUnrelated (xs ++ t ∷ [])
+unrelated-push : (xs : List Effect) (t : Effect) → AreUnrelated xs → is_under xs t ≡ false → covers_some xs t ≡ false → AreUnrelated (xs ++ t ∷ [])
 unrelated-push [] t all under over = (refl, refl, tt)
 unrelated-push (x ∷ xs) t all under over =
     let below = or-false (effect_covers x t) (is_under xs t) under in
-    let above = or-false (effect_covers t x) (is_over xs t) over in (
+    let above = or-false (effect_covers t x) (covers_some xs t) over in (
       none-push (λ wide. effect_covers wide x) xs t all.0 above.0,
       none-push (λ narrow. effect_covers x narrow) xs t all.1 below.0,
       unrelated-push xs t all.2 below.1 above.1,
@@ -85,7 +85,7 @@ module _ (effects kept left : List Effect) (keeps : KeepsWidest effects kept lef
   ]
 
   -- it covers none that was kept
-  not-over : is_over kept top ≡ false
+  not-over : covers_some kept top ≡ false
   not-over = none-any (λ narrow. effect_covers top narrow) kept
       (λ k here h. not-met k here (keeps.top k top (in-contains kept k here) top-in h))
 

@@ -8,10 +8,10 @@ use Rattle.region_paths.specs.declared.elements.Elem.{Elem}
 use Rattle.twe_program.specs.declared.program.Decl.{Decl}
 use Rattle.twe_program.specs.Program.{Program}
 use Rattle.effect_infer.specs.declared.needs.need.Need.{Need}
-use Rattle.effect_infer.specs.declared.needs.need.Step.{Step}
-use Rattle.effect_infer.specs.declared.needs.need.Step.TheVariants.{Touch, Call}
+use Rattle.effect_infer.specs.declared.needs.need.BodyStep.{BodyStep}
+use Rattle.effect_infer.specs.declared.needs.need.BodyStep.TheVariants.{Touch, Call}
 use Rattle.summary_comparing.specs.declared.bodies.BodySteps.{BodySteps}
-use Rattle.summary_comparing.specs.declared.states.State.{State}
+use Rattle.summary_comparing.specs.declared.states.SearchState.{SearchState}
 use Rattle.summary_comparing.specs.Placed.{all_bodies, body_steps}
 use Rattle.summary_comparing.specs.inner.Standing.{callee_values}
 use Rattle.summary_comparing.specs.inner.Search.{AreCalledWith, AreDone, AreLinked, CallsListed, IsDoneWith, IsLinked, IsListed, IsStarted, IsStateAt, StatesGrow}
@@ -59,7 +59,7 @@ mapped-at f (y ∷ xs) (suc k) x there = mapped-at f xs k x there
 
 module _ (bodies : List BodySteps) (target : Need) where
   -- a link stays one
-  link-stays : (states more : List State) (at : ℕ) (state : State) → IsLinked bodies target states at state → IsLinked bodies target (states ++ more) at state
+  link-stays : (states more : List SearchState) (at : ℕ) (state : SearchState) → IsLinked bodies target states at state → IsLinked bodies target (states ++ more) at state
   link-stays states more at state link = record {
     earlier = link.earlier;
     caller = link.caller;
@@ -71,17 +71,17 @@ module _ (bodies : List BodySteps) (target : Need) where
     called = link.called;
   }
 
-  pub grow-same : (states : List State) → StatesGrow bodies target states states
+  pub grow-same : (states : List SearchState) → StatesGrow bodies target states states
   grow-same states = record { longer = ([], sym (nil-right states)); linked = λ linked. linked }
 
-  pub grow-further : (first second third : List State) → StatesGrow bodies target first second → StatesGrow bodies target second third → StatesGrow bodies target first third
+  pub grow-further : (first second third : List SearchState) → StatesGrow bodies target first second → StatesGrow bodies target second third → StatesGrow bodies target first third
   grow-further first second third g h = record {
-    longer = (g.longer.0 ++ h.longer.0, h.longer.1 ∙ ap (λ (ss : List State). ss ++ h.longer.0) g.longer.1 ∙ append_assoc first g.longer.0 h.longer.0);
+    longer = (g.longer.0 ++ h.longer.0, h.longer.1 ∙ ap (λ (ss : List SearchState). ss ++ h.longer.0) g.longer.1 ∙ append_assoc first g.longer.0 h.longer.0);
     linked = λ linked. h.linked (g.linked linked);
   }
 
   -- one more, which comes from an earlier one
-  pub grow-push : (states : List State) (state : State) → IsLinked bodies target states (length states) state → StatesGrow bodies target states (states ++ state ∷ [])
+  pub grow-push : (states : List SearchState) (state : SearchState) → IsLinked bodies target states (length states) state → StatesGrow bodies target states (states ++ state ∷ [])
   grow-push states state link = record {
     longer = (state ∷ [], refl);
     linked = λ linked at other there. elim (at-push states state at other there) [
@@ -91,22 +91,22 @@ module _ (bodies : List BodySteps) (target : Need) where
       ]
       | inr last ↦ inr (link-stays states (state ∷ []) at other
           (subst (λ (i : ℕ). IsLinked bodies target states i other) (sym last.0)
-          (subst (λ (s : State). IsLinked bodies target states (length states) s) (sym last.1) link)))
+          (subst (λ (s : SearchState). IsLinked bodies target states (length states) s) (sym last.1) link)))
     ];
   }
 
   -- what is listed stays so
-  pub listed-stays : (old new : List State) (values : List (Option Elem)) (callee : ℕ) (args : List Elem) → StatesGrow bodies target old new
+  pub listed-stays : (old new : List SearchState) (values : List (Option Elem)) (callee : ℕ) (args : List Elem) → StatesGrow bodies target old new
       → IsListed bodies target old values callee args → IsListed bodies target new values callee args
   listed-stays old new values callee args grows listed body there =
       let found = listed body there in
-      (found.0, found.1, subst (λ (ss : List State). slice_get ss found.0 ≡ Some found.1) (sym grows.longer.1) (still-at old grows.longer.0 found.0 found.1 found.2), found.3, found.4)
+      (found.0, found.1, subst (λ (ss : List SearchState). slice_get ss found.0 ≡ Some found.1) (sym grows.longer.1) (still-at old grows.longer.0 found.0 found.1 found.2), found.3, found.4)
 
-  pub state-stays : (old new : List State) (at : ℕ) (values : List (Option Elem)) (steps : List Step) → StatesGrow bodies target old new
+  pub state-stays : (old new : List SearchState) (at : ℕ) (values : List (Option Elem)) (steps : List BodyStep) → StatesGrow bodies target old new
       → IsStateAt bodies old at values steps → IsStateAt bodies new at values steps
   state-stays old new at values steps grows here = record {
     state = here.state;
-    state_there = subst (λ (ss : List State). slice_get ss at ≡ Some here.state) (sym grows.longer.1) (still-at old grows.longer.0 at here.state here.state_there);
+    state_there = subst (λ (ss : List SearchState). slice_get ss at ≡ Some here.state) (sym grows.longer.1) (still-at old grows.longer.0 at here.state here.state_there);
     body = here.body;
     body_there = here.body_there;
     values_are = here.values_are;
@@ -114,20 +114,20 @@ module _ (bodies : List BodySteps) (target : Need) where
   }
 
   -- the state in which a method is called so, found or added
-  pub listed-at : (states : List State) (values : List (Option Elem)) (callee : ℕ) (args : List Elem) (body : BodySteps) (at : ℕ) (state : State)
+  pub listed-at : (states : List SearchState) (values : List (Option Elem)) (callee : ℕ) (args : List Elem) (body : BodySteps) (at : ℕ) (state : SearchState)
       → slice_get bodies callee ≡ Some body → slice_get states at ≡ Some state → state.method ≡ callee
       → state.values ≡ callee_values values target.elems args body.params → IsListed bodies target states values callee args
   listed-at states values callee args body at state is there method same other other_is =
       let one : body ≡ other = same_Some _ _ (sym is ∙ other_is) in
       (at, state, there, method, subst (λ (b : BodySteps). state.values ≡ callee_values values target.elems args b.params) one same)
 
-  pub listed-none : (states : List State) (values : List (Option Elem)) (callee : ℕ) (args : List Elem) → slice_get bodies callee ≡ None → IsListed bodies target states values callee args
+  pub listed-none : (states : List SearchState) (values : List (Option Elem)) (callee : ℕ) (args : List Elem) → slice_get bodies callee ≡ None → IsListed bodies target states values callee args
   listed-none states values callee args none body is = absurd (none-some (sym none ∙ is)) where
     none-some : {X : Type 0} {x : X} → ◌≡◌ {A = Option X} None (Some x) → ⊥
     none-some e = absurd (cc)
 
   -- the states of one step more
-  pub listed-more : (old new : List State) (values : List (Option Elem)) (steps : List Step) (at callee : ℕ) (args : List Elem) → StatesGrow bodies target old new
+  pub listed-more : (old new : List SearchState) (values : List (Option Elem)) (steps : List BodyStep) (at callee : ℕ) (args : List Elem) → StatesGrow bodies target old new
       → CallsListed bodies target old values steps at → slice_get steps at ≡ Some (Call callee args) → IsListed bodies target new values callee args
       → CallsListed bodies target new values steps (at + 1)
   listed-more old new values steps at callee args grows listed is one k other others below there = elim (cases_lt k at) [
@@ -140,7 +140,7 @@ module _ (bodies : List BodySteps) (target : Need) where
         subst (λ (xs : List Elem). IsListed bodies target new values other xs) elems (subst (λ (i : ℕ). IsListed bodies target new values i args) number one)
   ]
 
-  pub listed-skip : (states : List State) (values : List (Option Elem)) (steps : List Step) (at : ℕ) (need : Need)
+  pub listed-skip : (states : List SearchState) (values : List (Option Elem)) (steps : List BodyStep) (at : ℕ) (need : Need)
       → CallsListed bodies target states values steps at → slice_get steps at ≡ Some (Touch need) → CallsListed bodies target states values steps (at + 1)
   listed-skip states values steps at need listed is k other others below there = elim (cases_lt k at) [
     | inl before ↦ listed k other others before there
@@ -150,17 +150,17 @@ module _ (bodies : List BodySteps) (target : Need) where
         absurd (cc)
   ]
 
-  pub grow-length : (old new : List State) → StatesGrow bodies target old new → length old ≤ length new
+  pub grow-length : (old new : List SearchState) → StatesGrow bodies target old new → length old ≤ length new
   grow-length old new grows =
-      let long = ap (λ (ss : List State). length ss) grows.longer.1 ∙ length-append old grows.longer.0 in
+      let long = ap (λ (ss : List SearchState). length ss) grows.longer.1 ∙ length-append old grows.longer.0 in
       omega (arith, long)
 
   -- one state more is done with
-  pub done-more : (old new : List State) (at : ℕ) → StatesGrow bodies target old new → at < length old → AreDone bodies target old at
-      → ((state : State) → slice_get old at ≡ Some state → IsDoneWith bodies target new state) → AreDone bodies target new (at + 1)
+  pub done-more : (old new : List SearchState) (at : ℕ) → StatesGrow bodies target old new → at < length old → AreDone bodies target old at
+      → ((state : SearchState) → slice_get old at ≡ Some state → IsDoneWith bodies target new state) → AreDone bodies target new (at + 1)
   done-more old new at grows inside done one k state below there =
       let before : slice_get old k ≡ Some state =
-      at-before old grows.longer.0 k state (omega (arith, below, inside)) (subst (λ (ss : List State). slice_get ss k ≡ Some state) grows.longer.1 there) in
+      at-before old grows.longer.0 k state (omega (arith, below, inside)) (subst (λ (ss : List SearchState). slice_get ss k ≡ Some state) grows.longer.1 there) in
       elim (cases_lt k at) [
         | inl earlier ↦ λ body is.
             let so = done k state earlier before body is in
@@ -169,17 +169,17 @@ module _ (bodies : List BodySteps) (target : Need) where
       ]
 
   -- the only state is the first
-  pub one-linked : (states : List State) → length states ≡ 1 → AreLinked bodies target states
+  pub one-linked : (states : List SearchState) → length states ≡ 1 → AreLinked bodies target states
   one-linked states one at state there =
       let below : at < length states = slice_get_within states at state there in
       let first : at ≡ 0 = omega (arith, one, below) in
       inl first
 
   -- the first state stays
-  pub start-stays : (method : ℕ) (old new : List State) → StatesGrow bodies target old new → IsStarted bodies method old → IsStarted bodies method new
+  pub start-stays : (method : ℕ) (old new : List SearchState) → StatesGrow bodies target old new → IsStarted bodies method old → IsStarted bodies method new
   start-stays method old new grows started = record {
     state = started.state;
-    state_there = subst (λ (ss : List State). slice_get ss 0 ≡ Some started.state) (sym grows.longer.1) (still-at old grows.longer.0 0 started.state started.state_there);
+    state_there = subst (λ (ss : List SearchState). slice_get ss 0 ≡ Some started.state) (sym grows.longer.1) (still-at old grows.longer.0 0 started.state started.state_there);
     method_is = started.method_is;
     body = started.body;
     body_there = started.body_there;
@@ -187,8 +187,8 @@ module _ (bodies : List BodySteps) (target : Need) where
   }
 
 -- the values of a state are as many as the parameters of its method
-module _ (bodies : List BodySteps) (target : Need) (method : ℕ) (states : List State) (started : IsStarted bodies method states) (linked : AreLinked bodies target states) where
-  called-long : (values : List (Option Elem)) (args : List Elem) (state : State) → AreCalledWith bodies target values state args
+module _ (bodies : List BodySteps) (target : Need) (method : ℕ) (states : List SearchState) (started : IsStarted bodies method states) (linked : AreLinked bodies target states) where
+  called-long : (values : List (Option Elem)) (args : List Elem) (state : SearchState) → AreCalledWith bodies target values state args
       → (body : BodySteps) → slice_get bodies state.method ≡ Some body → length state.values ≡ body.params
   called-long values args state called body is =
       let one : called.0 ≡ body = same_Some _ _ (sym called.1 ∙ is) in
@@ -199,10 +199,10 @@ module _ (bodies : List BodySteps) (target : Need) (method : ℕ) (states : List
       let one : started.body ≡ body = same_Some _ _ (sym started.body_there ∙ (ap (slice_get bodies) (sym started.method_is) ∙ is)) in
       ap (λ (vs : List (Option Elem)). length vs) started.values_are ∙ own-length started.body.params ∙ ap (λ (b : BodySteps). b.params) one
 
-  pub values-long : (at : ℕ) (state : State) (body : BodySteps) → slice_get states at ≡ Some state → slice_get bodies state.method ≡ Some body → length state.values ≡ body.params
+  pub values-long : (at : ℕ) (state : SearchState) (body : BodySteps) → slice_get states at ≡ Some state → slice_get bodies state.method ≡ Some body → length state.values ≡ body.params
   values-long at state body there is = elim (linked at state there) [
     | inl first ↦
         let same : started.state ≡ state = same_Some _ _ (sym started.state_there ∙ (ap (slice_get states) (sym first) ∙ there)) in
-        subst (λ (s : State). slice_get bodies s.method ≡ Some body → length s.values ≡ body.params) same (first-long body) is
+        subst (λ (s : SearchState). slice_get bodies s.method ≡ Some body → length s.values ≡ body.params) same (first-long body) is
     | inr link ↦ called-long link.caller.values link.args state link.called body is
   ]

@@ -9,17 +9,17 @@ use Rattle.twe_base.proofs.Members.{IsIn, contains-in, in-contains, flat_map-in,
 use Rattle.effect_sets.specs.declared.effects.Effect.{Effect}
 use Rattle.effect_sets.specs.declared.effects.Summary.{Summary}
 use Rattle.effect_sets.specs.Covers.{effect_covers}
-use Rattle.effect_infer.specs.declared.needs.need.Step.{Step}
+use Rattle.effect_infer.specs.declared.needs.need.BodyStep.{BodyStep}
 use Rattle.effect_infer.proofs.needs.Relation.{get-in}
 use Rattle.summary_comparing.specs.Comparisons.{comparison_of, idle_effects, is_needed, is_wider, is_within_needs}
 use Rattle.summary_comparing.specs.Needed.{said_needs}
-use Rattle.summary_comparing.specs.Widest.{AreFewWidest, HasManyWidest, is_over, is_under}
+use Rattle.summary_comparing.specs.Widest.{AreFewWidest, HasManyWidest, covers_some, is_under}
 use Rattle.summary_comparing.specs.declared.comparison.Comparison.{Comparison}
 use Rattle.summary_comparing.specs.declared.comparison.Comparison.TheVariants.{Exact, Wider}
 use Rattle.summary_comparing.specs.inner.Differing.{HasEach, HasFirst, HaveSame, needs_if, numbered_needs}
 
 -- one step more, with its number
-pub first-more : (count : ℕ) (steps : List Step) (numbers : List ℕ) (step : Step) → slice_get steps count ≡ Some step
+pub first-more : (count : ℕ) (steps : List BodyStep) (numbers : List ℕ) (step : BodyStep) → slice_get steps count ≡ Some step
     → HasFirst count steps numbers → HasFirst (count + 1) steps (numbers ++ count ∷ [])
 first-more count steps numbers step at so_far number other below is = elim (cases_eq number count) [
   | inl e ↦
@@ -31,7 +31,7 @@ first-more count steps numbers step at so_far number other below is = elim (case
 ]
 
 -- one step more, which stands before too
-pub first-again : (count : ℕ) (steps : List Step) (numbers : List ℕ) (step : Step) (same : ℕ) → slice_get steps count ≡ Some step
+pub first-again : (count : ℕ) (steps : List BodyStep) (numbers : List ℕ) (step : BodyStep) (same : ℕ) → slice_get steps count ≡ Some step
     → same < count → slice_get steps same ≡ Some step
     → HasFirst count steps numbers → HasFirst (count + 1) steps numbers
 first-again count steps numbers step same at earlier there so_far number other below is = elim (cases_eq number count) [
@@ -42,27 +42,27 @@ first-again count steps numbers step same at earlier there so_far number other b
 ]
 
 -- all steps
-pub first-all : (count : ℕ) (steps : List Step) (numbers : List ℕ) → length steps ≤ count → HasFirst count steps numbers
+pub first-all : (count : ℕ) (steps : List BodyStep) (numbers : List ℕ) → length steps ≤ count → HasFirst count steps numbers
     → HasEach steps numbers
 first-all count steps numbers past so_far number step is =
     let within = slice_get_within steps number step is in
     so_far number step (omega (arith, within, past)) is
 
 -- an effect that a step of this number needs
-from-needs : (summaries : List Summary) (params : ℕ) (effect : Effect) (found : Option Step) → IsIn effect (needs_if summaries params found)
-    → (step : Step) × (found ≡ Some step) × IsIn effect (said_needs summaries params step)
+from-needs : (summaries : List Summary) (params : ℕ) (effect : Effect) (found : Option BodyStep) → IsIn effect (needs_if summaries params found)
+    → (step : BodyStep) × (found ≡ Some step) × IsIn effect (said_needs summaries params step)
 from-needs summaries params effect None h = absurd h
 from-needs summaries params effect (Some step) h = (step, refl, h)
 
 -- a step that needs something is there
-pub needs-within : (summaries : List Summary) (params : ℕ) (steps : List Step) (number : ℕ) (effect : Effect)
+pub needs-within : (summaries : List Summary) (params : ℕ) (steps : List BodyStep) (number : ℕ) (effect : Effect)
     → Contains (numbered_needs summaries params steps number) effect → number < length steps
 needs-within summaries params steps number effect h =
     let some = from-needs summaries params effect (slice_get steps number) (contains-in (numbered_needs summaries params steps number) effect h) in
     slice_get_within steps number some.0 some.1
 
 -- what the steps of these numbers need is what all steps need
-module _ (summaries : List Summary) (params : ℕ) (steps : List Step) (numbers : List ℕ) where
+module _ (summaries : List Summary) (params : ℕ) (steps : List BodyStep) (numbers : List ℕ) where
   in-steps : (effect : Effect) → Contains (flat_map (numbered_needs summaries params steps) numbers) effect
       → Contains (flat_map (said_needs summaries params) steps) effect
   in-steps effect h =
@@ -81,7 +81,7 @@ module _ (summaries : List Summary) (params : ℕ) (steps : List Step) (numbers 
       let one = each at.0 some.0 (slice_get_read steps (length steps) at.0 some.0 refl at.1 (sym at.2)) in
       in-contains (flat_map (numbered_needs summaries params steps) numbers) effect
       (in-flat_map (numbered_needs summaries params steps) numbers one.0 effect (contains-in numbers one.0 one.2)
-      (subst (λ (found : Option Step). IsIn effect (needs_if summaries params found)) (sym one.1) some.2))
+      (subst (λ (found : Option BodyStep). IsIn effect (needs_if summaries params found)) (sym one.1) some.2))
 
   pub numbered-same : HasEach steps numbers
       → HaveSame (flat_map (numbered_needs summaries params steps) numbers) (flat_map (said_needs summaries params) steps)
@@ -126,7 +126,7 @@ module _ (effects others : List Effect) (same : HaveSame effects others) where
 
   -- and so are comparisons with them
   needed-same : (children : List Effect) (effect : Effect) → is_needed effects children effect ≡ is_needed others children effect
-  needed-same children effect = ap (λ b. b || is_over children effect) (any-same (λ narrow. effect_covers effect narrow))
+  needed-same children effect = ap (λ b. b || covers_some children effect) (any-same (λ narrow. effect_covers effect narrow))
 
   within-same : (children : List Effect) (effect : Effect) → is_within_needs effects children effect ≡ is_within_needs others children effect
   within-same children effect = ap (λ b. b || is_under children effect) (any-same (λ wide. effect_covers wide effect))

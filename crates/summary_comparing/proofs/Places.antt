@@ -15,29 +15,29 @@ use Rattle.effect_check.specs.declared.act.ActKind.TheVariants as acts
 use Rattle.effect_check.specs.Acts.{acts_in_all, filled_summary}
 use Rattle.effect_check.specs.Covered.{Does}
 use Rattle.effect_infer.specs.declared.needs.need.Need.{Need}
-use Rattle.effect_infer.specs.declared.needs.need.Step.{Step}
-use Rattle.effect_infer.specs.declared.needs.need.Step.TheVariants as steps
+use Rattle.effect_infer.specs.declared.needs.need.BodyStep.{BodyStep}
+use Rattle.effect_infer.specs.declared.needs.need.BodyStep.TheVariants as steps
 use Rattle.effect_infer.specs.needs.Steps.{steps_in_all}
 use Rattle.effect_infer.specs.needs.Needs.{effect_of}
 use Rattle.effect_infer.proofs.needs.Steps.{Seen, touched, called, seen, seen_of, shown, seen-statements}
 use Rattle.summary_comparing.specs.Placed.{HasStepAt, step_place, step_places}
 
 -- at this place an act is what the step says
-abbrev pub IsActOf : Program → Step → Place → ActKind → Type 0
+abbrev pub IsActOf : Program → BodyStep → Place → ActKind → Type 0
 IsActOf q (steps.Touch need) place kind = kind ≡ acts.Touch (effect_of need) place
 IsActOf q (steps.Call method args) place kind = kind ≡ acts.Call (filled_summary (slice_get q.methods method) args) place
 
-access-of : (q : Program) (effect : Effect) (place : Place) (s : Step) → touched effect ≡ shown q s → IsActOf q s place (acts.Touch effect place)
+access-of : (q : Program) (effect : Effect) (place : Place) (s : BodyStep) → touched effect ≡ shown q s → IsActOf q s place (acts.Touch effect place)
 access-of q effect place (steps.Touch need) e = let same : effect ≡ effect_of need = cc in ap (λ (x : Effect). acts.Touch x place) same
 access-of q effect place (steps.Call method args) e = absurd (cc)
 
-call-of : (q : Program) (effects : Summary) (place : Place) (s : Step) → called effects ≡ shown q s → IsActOf q s place (acts.Call effects place)
+call-of : (q : Program) (effects : Summary) (place : Place) (s : BodyStep) → called effects ≡ shown q s → IsActOf q s place (acts.Call effects place)
 call-of q effects place (steps.Touch need) e = absurd (cc)
 call-of q effects place (steps.Call method args) e =
     let same : effects ≡ filled_summary (slice_get q.methods method) args = cc in ap (λ (x : Summary). acts.Call x place) same
 
 -- the place of the step with this number among the places of the acts, and the act that has it
-pub record StepPlace (q : Program) (as' : List Act) (k : ℕ) (s : Step) : Type 0 where
+pub record StepPlace (q : Program) (as' : List Act) (k : ℕ) (s : BodyStep) : Type 0 where
   pub place : Place
   pub place_there : slice_get (step_places as') k ≡ Some place
   pub act : Act
@@ -45,16 +45,16 @@ pub record StepPlace (q : Program) (as' : List Act) (k : ℕ) (s : Step) : Type 
   pub is_act : IsActOf q s place act.kind
 
 -- the same, if an act of this kind comes before them
-record PlaceBy (q : Program) (kind : ActKind) (as' : List Act) (k : ℕ) (s : Step) : Type 0 where
+record PlaceBy (q : Program) (kind : ActKind) (as' : List Act) (k : ℕ) (s : BodyStep) : Type 0 where
   pub place : Place
   pub place_there : slice_get (step_place kind ++ step_places as') k ≡ Some place
   pub is_act : IsActOf q s place kind ⊎ ((act : Act) × IsIn act as' × IsActOf q s place act.kind)
 
 abbrev HavePlaces : Program → List Act → Type 0
-HavePlaces q as' = (ss : List Step) → seen as' ≡ map (shown q) ss → (k : ℕ) (s : Step) → slice_get ss k ≡ Some s → StepPlace q as' k s
+HavePlaces q as' = (ss : List BodyStep) → seen as' ≡ map (shown q) ss → (k : ℕ) (s : BodyStep) → slice_get ss k ≡ Some s → StepPlace q as' k s
 
-place-by : (q : Program) (kind : ActKind) (as' : List Act) → HavePlaces q as' → (ss : List Step) → seen_of kind ++ seen as' ≡ map (shown q) ss
-    → (k : ℕ) (s : Step) → slice_get ss k ≡ Some s → PlaceBy q kind as' k s
+place-by : (q : Program) (kind : ActKind) (as' : List Act) → HavePlaces q as' → (ss : List BodyStep) → seen_of kind ++ seen as' ≡ map (shown q) ss
+    → (k : ℕ) (s : BodyStep) → slice_get ss k ≡ Some s → PlaceBy q kind as' k s
 place-by q (acts.Touch effect place) as' rest [] e k s there = absurd (cc)
 place-by q (acts.Touch effect place) as' rest (t ∷ ss) e zero s there =
     let head : touched effect ≡ shown q t = cc in
@@ -80,7 +80,7 @@ place-by q (acts.Wait future join place) as' rest ss e k s there =
     let found = rest ss e k s there in
     record { place = found.place; place_there = found.place_there; is_act = inr (found.act, found.act_there, found.is_act) }
 
-with-act : (q : Program) (a : Act) (as' : List Act) (k : ℕ) (s : Step) → PlaceBy q a.kind as' k s → StepPlace q (a ∷ as') k s
+with-act : (q : Program) (a : Act) (as' : List Act) (k : ℕ) (s : BodyStep) → PlaceBy q a.kind as' k s → StepPlace q (a ∷ as') k s
 with-act q a as' k s by = elim by.is_act [
   | inl here ↦ record { place = by.place; place_there = by.place_there; act = a; act_there = inl refl; is_act = here }
   | inr later ↦ record { place = by.place; place_there = by.place_there; act = later.0; act_there = inr later.1; is_act = later.2 }
@@ -93,18 +93,18 @@ step-place q (a ∷ as') ss e k s there = with-act q a as' k s (place-by q a.kin
 
 -- of the body of a declaration
 module _ (q : Program) (decl : Decl) where
-  pub body-place : (k : ℕ) (s : Step) → slice_get (steps_in_all q.cells decl.body.block) k ≡ Some s
+  pub body-place : (k : ℕ) (s : BodyStep) → slice_get (steps_in_all q.cells decl.body.block) k ≡ Some s
       → StepPlace q (acts_in_all q decl.body.block) k s
   body-place k s there =
       step-place q (acts_in_all q decl.body.block) (steps_in_all q.cells decl.body.block) (seen-statements q decl.body.block) k s there
 
   -- its place is there, and so the body has the step at it
-  pub step-at : (k : ℕ) (s : Step) (place : Place) → slice_get (steps_in_all q.cells decl.body.block) k ≡ Some s
+  pub step-at : (k : ℕ) (s : BodyStep) (place : Place) → slice_get (steps_in_all q.cells decl.body.block) k ≡ Some s
       → slice_get (step_places (acts_in_all q decl.body.block)) k ≡ Some place → HasStepAt q decl s place
   step-at k s place there here = record { number = k; step_there = there; place_there = here }
 
   -- and does it there
-  done-at : (s : Step) (place : Place) → HasStepAt q decl s place → (act : Act) × IsIn act (acts_in_all q decl.body.block) × IsActOf q s place act.kind
+  done-at : (s : BodyStep) (place : Place) → HasStepAt q decl s place → (act : Act) × IsIn act (acts_in_all q decl.body.block) × IsActOf q s place act.kind
   done-at s place at =
       let found = body-place at.number s at.step_there in
       let same : found.place ≡ place = same_Some _ _ (sym found.place_there ∙ at.place_there) in

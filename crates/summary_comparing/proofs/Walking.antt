@@ -7,11 +7,11 @@ use Rattle.region_paths.specs.declared.elements.Elem.{Elem}
 use Rattle.twe_program.specs.declared.program.Decl.{Decl}
 use Rattle.twe_program.specs.Program.{Program}
 use Rattle.effect_infer.specs.declared.needs.need.Need.{Need}
-use Rattle.effect_infer.specs.declared.needs.need.Step.{Step}
-use Rattle.effect_infer.specs.declared.needs.need.Step.TheVariants.{Touch, Call}
+use Rattle.effect_infer.specs.declared.needs.need.BodyStep.{BodyStep}
+use Rattle.effect_infer.specs.declared.needs.need.BodyStep.TheVariants.{Touch, Call}
 use Rattle.effect_infer.specs.needs.Needs.{IsNeed, own, called, filled_need, settled, settled_elem}
 use Rattle.summary_comparing.specs.declared.bodies.BodySteps.{BodySteps}
-use Rattle.summary_comparing.specs.declared.states.State.{State}
+use Rattle.summary_comparing.specs.declared.states.SearchState.{SearchState}
 use Rattle.summary_comparing.specs.Placed.{HasStepAt, all_bodies, body_steps}
 use Rattle.summary_comparing.specs.Chains.{LeadsToNeed}
 use Rattle.summary_comparing.specs.inner.Standing.{callee_values, is_match, own_values}
@@ -35,22 +35,22 @@ lead-need p m need places (LeadsToNeed.call n decl callee args inner place rest 
     called n decl callee args inner (is, at-contains _ _ at.number at.step_there) (lead-need p callee inner rest leads)
 
 -- the places so far lead from the method of this state to what stands for the need there
-pub record HasCome (p : Program) (target : Need) (states : List State) (now : ℕ) (back : List Place) : Type 0 where
-  pub state : State
+pub record HasCome (p : Program) (target : Need) (states : List SearchState) (now : ℕ) (back : List Place) : Type 0 where
+  pub state : SearchState
   pub state_there : slice_get states now ≡ Some state
   pub need : Need
   pub leads : LeadsToNeed p state.method need back
   pub matches : is_match state.values need target ≡ true
 
-module _ (p : Program) (target : Need) (method : ℕ) (states : List State) (started : IsStarted (all_bodies p) method states) (linked : AreLinked (all_bodies p) target states) where
+module _ (p : Program) (target : Need) (method : ℕ) (states : List SearchState) (started : IsStarted (all_bodies p) method states) (linked : AreLinked (all_bodies p) target states) where
   -- the step of a state's method, with its place
-  placed : (at : ℕ) (state : State) (decl : Decl) (k : ℕ) (step : Step) → slice_get states at ≡ Some state → slice_get p.methods state.method ≡ Some decl
+  placed : (at : ℕ) (state : SearchState) (decl : Decl) (k : ℕ) (step : BodyStep) → slice_get states at ≡ Some state → slice_get p.methods state.method ≡ Some decl
       → slice_get (body_steps p decl).steps k ≡ Some step → (place : Place) × (place_of_step (all_bodies p) (slice_get states at) k ≡ Some place) × HasStepAt p decl step place
   placed at state decl k step there is step_there =
       let found = body-place p decl k step step_there in
       let body : slice_get (all_bodies p) state.method ≡ Some (body_steps p decl) = mapped-at (body_steps p) p.methods state.method decl is in (
         found.place,
-        ap (λ (o : Option State). place_of_step (all_bodies p) o k) there ∙ (ap (λ (o : Option BodySteps). place_in_body o k) body ∙ found.place_there),
+        ap (λ (o : Option SearchState). place_of_step (all_bodies p) o k) there ∙ (ap (λ (o : Option BodySteps). place_in_body o k) body ∙ found.place_there),
         step-at p decl k step found.place step_there found.place_there,
       )
 
@@ -73,14 +73,14 @@ module _ (p : Program) (target : Need) (method : ℕ) (states : List State) (sta
       }
 
   -- one call back
-  pub come-back : (now : ℕ) (back : List Place) (state : State) → HasCome p target states now back → slice_get states now ≡ Some state → 0 < now
+  pub come-back : (now : ℕ) (back : List Place) (state : SearchState) → HasCome p target states now back → slice_get states now ≡ Some state → 0 < now
       → HasCome p target states state.from (option_to_list (place_of_step (all_bodies p) (slice_get states state.from) state.step) ++ back)
   come-back now back state come there above = elim (linked now state there) [
     | inl first ↦ absurd (omega (arith, above, first))
     | inr link ↦
         let same : come.state ≡ state = same_Some _ _ (sym come.state_there ∙ there) in
-        let leads : LeadsToNeed p state.method come.need back = subst (λ (s : State). LeadsToNeed p s.method come.need back) same come.leads in
-        let matches : is_match state.values come.need target ≡ true = subst (λ (s : State). is_match s.values come.need target ≡ true) same come.matches in
+        let leads : LeadsToNeed p state.method come.need back = subst (λ (s : SearchState). LeadsToNeed p s.method come.need back) same come.leads in
+        let matches : is_match state.values come.need target ≡ true = subst (λ (s : SearchState). is_match s.values come.need target ≡ true) same come.matches in
         let caller = link.caller in
         let decl = at-mapped (body_steps p) p.methods caller.method link.body link.body_there in
         let callee = at-mapped (body_steps p) p.methods state.method link.called.0 link.called.1 in
@@ -109,16 +109,16 @@ module _ (p : Program) (target : Need) (method : ℕ) (states : List State) (sta
   come-home now back first come =
       let same : come.state ≡ started.state = same_Some _ _ (sym come.state_there ∙ (ap (slice_get states) first ∙ started.state_there)) in
       let leads : LeadsToNeed p method come.need back =
-      subst (λ (m : ℕ). LeadsToNeed p m come.need back) (ap (λ (s : State). s.method) same ∙ started.method_is) come.leads in
+      subst (λ (m : ℕ). LeadsToNeed p m come.need back) (ap (λ (s : SearchState). s.method) same ∙ started.method_is) come.leads in
       let decl = at-mapped (body_steps p) p.methods method started.body started.body_there in
       let said = subst (λ (b : BodySteps). AreSaid b.params come.need.elems) (sym decl.2)
       (need-said p method come.need decl.0 (lead-need p method come.need back leads) decl.1) in
       let matches : is_match (own_values started.body.params) come.need target ≡ true =
-      ap (λ (vs : List (Option Elem)). is_match vs come.need target) (sym (ap (λ (s : State). s.values) same ∙ started.values_are)) ∙ come.matches in
+      ap (λ (vs : List (Option Elem)). is_match vs come.need target) (sym (ap (λ (s : SearchState). s.values) same ∙ started.values_are)) ∙ come.matches in
       subst (λ (n : Need). LeadsToNeed p method n back) (own-match started.body.params come.need target said matches) leads
 
   -- the state from which another comes stands before it
-  pub comes-earlier : (now : ℕ) (state : State) → slice_get states now ≡ Some state → 0 < now → (state.from < now) × (state.from < length states)
+  pub comes-earlier : (now : ℕ) (state : SearchState) → slice_get states now ≡ Some state → 0 < now → (state.from < now) × (state.from < length states)
   comes-earlier now state there above = elim (linked now state there) [
     | inl first ↦ absurd (omega (arith, above, first))
     | inr link ↦ (link.earlier, slice_get_within states state.from link.caller link.caller_there)

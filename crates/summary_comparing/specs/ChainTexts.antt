@@ -10,7 +10,7 @@ use Rattle.twe_ast.specs.declared.item.Item.{Item}
 use Rattle.twe_ast.specs.declared.item.Item.TheVariants.{Regions, Cell, Method, Task}
 use Rattle.twe_program.specs.declared.program.Decl.{Decl}
 use Rattle.twe_program.specs.Program.{Program}
-use Rattle.text_meaning.specs.EffectTexts.{effect_text}
+use Rattle.twe_frontend.specs.meaning.EffectTexts.{effect_text}
 use Rattle.summary_comparing.specs.declared.chain.NeedChain.{NeedChain}
 use Rattle.summary_comparing.specs.declared.comparison.Comparison.{Comparison}
 use Rattle.summary_comparing.specs.declared.lines.CompareLines.{CompareLines}

@@ -12,8 +12,8 @@ use Rattle.effect_check.specs.declared.act.ActKind.{ActKind}
 use Rattle.effect_check.specs.declared.act.ActKind.TheVariants as acts
 use Rattle.effect_check.specs.Acts.{acts_in_all}
 use Rattle.effect_infer.specs.declared.needs.need.Need.{Need}
-use Rattle.effect_infer.specs.declared.needs.need.Step.{Step}
-use Rattle.effect_infer.specs.declared.needs.need.Step.TheVariants.{Touch, Call}
+use Rattle.effect_infer.specs.declared.needs.need.BodyStep.{BodyStep}
+use Rattle.effect_infer.specs.declared.needs.need.BodyStep.TheVariants.{Touch, Call}
 use Rattle.effect_infer.specs.needs.Needs.{IsNeed, effect_of}
 use Rattle.summary_comparing.specs.Chains.{LeadsToNeed}
 use Rattle.summary_comparing.specs.Placed.{HasStepAt}
@@ -43,7 +43,7 @@ pub data IsCallChain (p : Program) (method : ℕ) (its : Effect) (place : Place)
 -- a step of a body at this place needs the effect, as a declaration says it that has so many parameters, and leads to it by this
 -- chain, if the methods count with these summaries
 pub data IsStepChain (p : Program) (summaries : List Summary) (params : ℕ) (effect : Effect) (place : Place)
-    : Step → NeedChain → Type 0 where
+    : BodyStep → NeedChain → Type 0 where
   access : (need : Need) → effect ≡ said_effect params (effect_of need)
       → IsStepChain p summaries params effect place (Touch need) (chain_to_access (place ∷ []))
   call : (method : ℕ) (args : List Elem) (summary : Summary) (its : Effect) (chain : NeedChain)
@@ -53,7 +53,7 @@ pub data IsStepChain (p : Program) (summaries : List Summary) (params : ℕ) (ef
 
 -- the body of the declaration needs the effect, and leads to it by this chain
 pub record IsNeedChain (p : Program) (summaries : List Summary) (decl : Decl) (effect : Effect) (chain : NeedChain) : Type 0 where
-  pub step : Step
+  pub step : BodyStep
   pub place : Place
   pub step_there : HasStepAt p decl step place
   pub leads : IsStepChain p summaries decl.params effect place step chain

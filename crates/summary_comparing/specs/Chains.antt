@@ -5,7 +5,7 @@ use Rattle.region_paths.specs.declared.elements.Elem.{Elem}
 use Rattle.twe_program.specs.declared.program.Decl.{Decl}
 use Rattle.twe_program.specs.Program.{Program}
 use Rattle.effect_infer.specs.declared.needs.need.Need.{Need}
-use Rattle.effect_infer.specs.declared.needs.need.Step.TheVariants.{Touch, Call}
+use Rattle.effect_infer.specs.declared.needs.need.BodyStep.TheVariants.{Touch, Call}
 use Rattle.effect_infer.specs.needs.Needs.{filled_need, settled}
 use Rattle.summary_comparing.specs.Placed.{HasStepAt}
 

@@ -9,7 +9,7 @@ use Rattle.twe_ast.specs.declared.item.Decl as declared
 use Rattle.twe_ast.specs.declared.item.Item.{Item}
 use Rattle.twe_ast.specs.declared.item.Item.TheVariants.{Regions, Cell, Method, Task}
 use Rattle.twe_program.specs.Program.{Program}
-use Rattle.text_meaning.specs.EffectTexts.{effects_text}
+use Rattle.twe_frontend.specs.meaning.EffectTexts.{effects_text}
 use Rattle.summary_comparing.specs.declared.comparison.Comparison.{Comparison}
 use Rattle.summary_comparing.specs.declared.comparison.Comparison.TheVariants.{Exact, Wider, TooMany}
 use Rattle.summary_comparing.specs.declared.lines.CompareLines.{CompareLines}

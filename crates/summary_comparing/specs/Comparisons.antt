@@ -6,13 +6,13 @@ use Rattle.effect_sets.specs.declared.effects.Summary.{Summary}
 use Rattle.twe_program.specs.declared.program.Decl.{Decl}
 use Rattle.twe_program.specs.Program.{Program}
 use Rattle.summary_comparing.specs.Needed.{body_needs, child_needs}
-use Rattle.summary_comparing.specs.Widest.{AreFewWidest, HasManyWidest, is_over, is_under}
+use Rattle.summary_comparing.specs.Widest.{AreFewWidest, HasManyWidest, covers_some, is_under}
 use Rattle.summary_comparing.specs.declared.comparison.Comparison.{Comparison}
 use Rattle.summary_comparing.specs.declared.comparison.Comparison.TheVariants.{Exact, Wider, TooMany}
 
 -- something is needed that the effect covers
 abbrev pub is_needed : List Effect → List Effect → Effect → Bool
-is_needed body children effect = is_over body effect || is_over children effect
+is_needed body children effect = covers_some body effect || covers_some children effect
 
 -- something is needed that covers the effect
 abbrev pub is_within_needs : List Effect → List Effect → Effect → Bool

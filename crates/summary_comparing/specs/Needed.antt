@@ -13,8 +13,8 @@ use Rattle.effect_check.specs.declared.act.Act.{Act}
 use Rattle.effect_check.specs.declared.act.ActKind.{ActKind}
 use Rattle.effect_check.specs.declared.act.ActKind.TheVariants as acts
 use Rattle.effect_check.specs.Acts.{acts_in_all}
-use Rattle.effect_infer.specs.declared.needs.need.Step.{Step}
-use Rattle.effect_infer.specs.declared.needs.need.Step.TheVariants.{Touch, Call}
+use Rattle.effect_infer.specs.declared.needs.need.BodyStep.{BodyStep}
+use Rattle.effect_infer.specs.declared.needs.need.BodyStep.TheVariants.{Touch, Call}
 use Rattle.effect_infer.specs.needs.Needs.{effect_of, settled_elem}
 use Rattle.effect_infer.specs.needs.Steps.{steps_in_all}
 
@@ -36,12 +36,12 @@ called_needs None args = []
 called_needs (Some summary) args = map (fill_effect args) summary.effects
 
 -- what a step of a body needs, if the methods have these summaries
-abbrev pub step_needs : List Summary → Step → List Effect
+abbrev pub step_needs : List Summary → BodyStep → List Effect
 step_needs summaries (Touch need) = effect_of need ∷ []
 step_needs summaries (Call method args) = called_needs (slice_get summaries method) args
 
 -- the same, as a declaration says it that has so many parameters
-abbrev pub said_needs : List Summary → ℕ → Step → List Effect
+abbrev pub said_needs : List Summary → ℕ → BodyStep → List Effect
 said_needs summaries params step = map (said_effect params) (step_needs summaries step)
 
 -- What the body of the declaration reads and writes, and what the methods need that it calls, in the order of the text. Each

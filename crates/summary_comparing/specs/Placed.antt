@@ -7,7 +7,7 @@ use Rattle.effect_check.specs.declared.act.Act.{Act}
 use Rattle.effect_check.specs.declared.act.ActKind.{ActKind}
 use Rattle.effect_check.specs.declared.act.ActKind.TheVariants.{Touch, Call, Make, Wait}
 use Rattle.effect_check.specs.Acts.{acts_in_all}
-use Rattle.effect_infer.specs.declared.needs.need.Step.{Step}
+use Rattle.effect_infer.specs.declared.needs.need.BodyStep.{BodyStep}
 use Rattle.effect_infer.specs.needs.Steps.{steps_in_all}
 use Rattle.summary_comparing.specs.declared.bodies.BodySteps.{BodySteps}
 
@@ -25,7 +25,7 @@ step_places (act ∷ others) = step_place act.kind ++ step_places others
 
 -- The body of the declaration has this step at this place: both have one number, the step among the accesses and calls of the
 -- body, and the place among their places.
-pub record HasStepAt (p : Program) (decl : Decl) (step : Step) (place : Place) : Type 0 where
+pub record HasStepAt (p : Program) (decl : Decl) (step : BodyStep) (place : Place) : Type 0 where
   pub number : ℕ
   pub step_there : slice_get (steps_in_all p.cells decl.body.block) number ≡ Some step
   pub place_there : slice_get (step_places (acts_in_all p decl.body.block)) number ≡ Some place

@@ -10,14 +10,14 @@ abbrev pub is_under : List Effect → Effect → Bool
 is_under effects effect = list_any (λ wide. effect_covers wide effect) effects
 
 -- this effect covers one of the effects
-abbrev pub is_over : List Effect → Effect → Bool
-is_over effects effect = list_any (λ narrow. effect_covers effect narrow) effects
+abbrev pub covers_some : List Effect → Effect → Bool
+covers_some effects effect = list_any (λ narrow. effect_covers effect narrow) effects
 
 -- none of the effects covers another
 abbrev pub AreUnrelated : List Effect → Type 0
 AreUnrelated [] = Unit {0}
 AreUnrelated (effect ∷ effects) =
-    (is_under effects effect ≡ false) × (is_over effects effect ≡ false) × AreUnrelated effects
+    (is_under effects effect ≡ false) × (covers_some effects effect ≡ false) × AreUnrelated effects
 
 -- at most 8 of the effects, none of which covers another, cover all of them
 pub record AreFewWidest (effects widest : List Effect) : Type 0 where

@@ -2,7 +2,7 @@
 ghost use Rattle.std.specs.Prelude.{◌≡◌, ◌∷◌, [], Some, Contains, IfNone, IfOk, IfSome, map, slice_get};
 ghost use Rattle.effect_sets.specs.Filled.{fill_effect};
 ghost use Rattle.effect_infer.specs.declared.needs.need.Need.{Need as Named};
-ghost use Rattle.effect_infer.specs.declared.needs.need.Step.TheVariants.{Call};
+ghost use Rattle.effect_infer.specs.declared.needs.need.BodyStep.TheVariants.{Call};
 ghost use Rattle.effect_infer.specs.needs.Needs.{IsNeed, effect_of};
 ghost use Rattle.summary_comparing.specs.Chains.{LeadsToNeed};
 ghost use Rattle.effect_sets.specs.declared.effects.Effect.{Effect as WideEffect};
@@ -17,7 +17,7 @@ use crate::bodies::{BodySteps, Places, body_of};
 use crate::differing::differing_steps;
 use crate::search::find_chain;
 use crate::sources::{effects_before, steps_before};
-use effect_infer::needs::{Need, Step};
+use effect_infer::needs::{BodyStep, Need};
 use effect_sets::{Effect, Summary};
 use region_paths::Elem;
 use std::alloc::Global;
@@ -34,7 +34,7 @@ pub struct NeedChain {
 }
 
 /// Chains in the order of what is needed.
-pub(crate) type Chains = List<NeedChain>;
+pub(crate) type NeedChains = List<NeedChain>;
 
 /// The effect as the need of a body, if it can be one.
 fn need_of(alloc: Global, its: &Effect) -> Result<Option<Need>, Memory>
@@ -171,7 +171,7 @@ fn step_chain(
     bodies: &[BodySteps],
     summaries: &[Summary],
     params: u32,
-    step: &Step,
+    step: &BodyStep,
     effect: &Effect,
     place: Place,
 ) -> Result<NeedChain, Memory>
@@ -180,8 +180,8 @@ fn step_chain(
     ensures { IfOk result (IsStepChain p.now summaries.now params effect.now place step.now) }
 {
     match step {
-        Step::Touch(_) => single_chain(alloc, place, false),
-        Step::Call { method, args } => called_chain(
+        BodyStep::Touch(_) => single_chain(alloc, place, false),
+        BodyStep::Call { method, args } => called_chain(
             alloc,
             p,
             bodies,
@@ -204,7 +204,7 @@ fn placed_chain(
     decl: &Decl,
     places: &[Place],
     at: usize,
-    step: &Step,
+    step: &BodyStep,
     effect: &Effect,
 ) -> Result<NeedChain, Memory>
     requires all { bodies.now ≡ all_bodies p.now }
@@ -227,7 +227,7 @@ fn numbered_chain(
     bodies: &[BodySteps],
     summaries: &[Summary],
     decl: &Decl,
-    steps: &[Step],
+    steps: &[BodyStep],
     places: &[Place],
     number: usize,
     effect: &Effect,
@@ -254,7 +254,7 @@ fn need_chain(
     bodies: &[BodySteps],
     summaries: &[Summary],
     decl: &Decl,
-    steps: &[Step],
+    steps: &[BodyStep],
     numbers: &[usize],
     places: &[Place],
     effect: &Effect,
@@ -283,7 +283,7 @@ pub(crate) fn chains_of(
     summaries: &[Summary],
     decl: &Decl,
     effects: &[Effect],
-) -> Result<Chains, Memory>
+) -> Result<NeedChains, Memory>
     requires all { bodies.now ≡ all_bodies p.now }
     requires needed { (effect : WideEffect) → Contains effects.now effect
         → Contains (body_needs p.now summaries.now decl.now) effect }
@@ -294,7 +294,7 @@ pub(crate) fn chains_of(
     let places = body.places.as_slice();
     let numbers = differing_steps(alloc, steps)?;
     let numbers = numbers.as_slice();
-    let mut chains = Chains::new(alloc);
+    let mut chains = NeedChains::new(alloc);
     for effect in effects {
         let chain = need_chain(
             alloc, p, bodies, summaries, decl, steps, numbers, places, effect,

@@ -8,7 +8,7 @@ ghost use Rattle.effect_check.specs.declared.act.ActKind.TheVariants as acts;
 ghost use Rattle.effect_check.specs.Acts.{filled_summary};
 ghost use Rattle.effect_check.specs.Covered.{Does};
 ghost use Rattle.effect_infer.specs.declared.needs.need.Need.{Need};
-ghost use Rattle.effect_infer.specs.declared.needs.need.Step.TheVariants.{Call, Touch};
+ghost use Rattle.effect_infer.specs.declared.needs.need.BodyStep.TheVariants.{Call, Touch};
 ghost use Rattle.effect_infer.specs.needs.Needs.{IsNeed, effect_of};
 ghost use Rattle.summary_comparing.specs.Chains.{LeadsToNeed};
 ghost use Rattle.summary_comparing.specs.Placed.{HasStepAt};

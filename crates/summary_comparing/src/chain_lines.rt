@@ -5,9 +5,9 @@ ghost use Rattle.summary_comparing.specs.ChainTexts.{chain_end, spawn_line, spaw
 use crate::chain::NeedChain;
 use crate::lines::push_line_and_column;
 use effect_sets::Effect;
-use text_meaning::push_effect;
 use twe_ast::Name;
 use twe_base::{Bytes, Memory, Place, Word};
+use twe_frontend::push_effect;
 
 /// Appends places, each after `, `.
 fn push_more_places(text: &mut Bytes, places: &[Place]) -> Result<(), Memory>

@@ -3,7 +3,7 @@ ghost use Rattle.std.specs.Prelude.{◌≡◌, IfOk};
 ghost use Rattle.summary_comparing.specs.Comparisons.{AreComparisons, IsComparison, comparison_of, idle_effects, is_needed, is_wider, is_within_needs};
 
 use crate::comparison::Comparison;
-use crate::covering::{copy_effects, is_over, is_under};
+use crate::covering::{copy_effects, covers_some, is_under};
 use crate::needed::{body_needs, child_needs};
 use crate::widest::few_widest;
 use effect_sets::{Effect, Effects, Summary};
@@ -18,7 +18,7 @@ pub(crate) type Comparisons = List<Comparison>;
 fn is_needed(body: &[Effect], children: &[Effect], effect: &Effect) -> bool
     ensures { result ≡ is_needed body.now children.now effect.now }
 {
-    is_over(body, effect) || is_over(children, effect)
+    covers_some(body, effect) || covers_some(children, effect)
 }
 
 /// Whether something is needed that covers the effect.

@@ -1,7 +1,7 @@
 //! Whether effects cover one another.
 ghost use Rattle.std.specs.Prelude.{◌≡◌, IfOk};
 ghost use Rattle.effect_sets.specs.Covers.{effect_covers};
-ghost use Rattle.summary_comparing.specs.Widest.{is_over, is_under, not_under};
+ghost use Rattle.summary_comparing.specs.Widest.{covers_some, is_under, not_under};
 
 use effect_sets::{Effect, Effects};
 use region_paths::includes;
@@ -23,8 +23,8 @@ pub(crate) fn is_under(effects: &[Effect], effect: &Effect) -> bool
 }
 
 /// Whether this effect covers one of the effects.
-pub(crate) fn is_over(effects: &[Effect], effect: &Effect) -> bool
-    ensures { result ≡ is_over effects.now effect.now }
+pub(crate) fn covers_some(effects: &[Effect], effect: &Effect) -> bool
+    ensures { result ≡ covers_some effects.now effect.now }
 {
     effects.iter().any(|narrow| covers_effect(effect, narrow))
 }

@@ -1,25 +1,25 @@
 //! The steps of a body, of equal calls the first.
 ghost use Rattle.std.specs.Prelude.{◌≡◌, ◌<◌, ℕ, IfOk, IsTrue, Some, slice_get};
-ghost use Rattle.effect_infer.specs.declared.needs.need.Step.TheVariants.{Call};
+ghost use Rattle.effect_infer.specs.declared.needs.need.BodyStep.TheVariants.{Call};
 ghost use Rattle.summary_comparing.specs.inner.Differing.{HasEach};
 
 use crate::first_calls::FirstCalls;
 use crate::same_effect::are_same_elems;
-use effect_infer::needs::Step;
+use effect_infer::needs::BodyStep;
 use region_paths::Elem;
 use std::alloc::Global;
 use twe_base::{List, Memory};
 
 /// Numbers of steps.
-pub(crate) type Numbers = List<usize>;
+pub(crate) type StepNumbers = List<usize>;
 
 /// Whether the step is this call.
-fn is_call(step: &Step, method: u32, args: &[Elem]) -> bool
+fn is_call(step: &BodyStep, method: u32, args: &[Elem]) -> bool
     ensures { IsTrue result → step.now ≡ Call method args.now }
 {
     match step {
-        Step::Touch(_) => false,
-        Step::Call {
+        BodyStep::Touch(_) => false,
+        BodyStep::Call {
             method: its,
             args: elems,
         } => *its == method && are_same_elems(elems.as_slice(), args),
@@ -27,7 +27,13 @@ fn is_call(step: &Step, method: u32, args: &[Elem]) -> bool
 }
 
 /// Whether this call is the step `first`, which stands before the step `number`.
-fn stands_before(steps: &[Step], first: usize, number: usize, method: u32, args: &[Elem]) -> bool
+fn stands_before(
+    steps: &[BodyStep],
+    first: usize,
+    number: usize,
+    method: u32,
+    args: &[Elem],
+) -> bool
     ensures { IsTrue result → (first < number) × (slice_get steps.now first ≡ Some (Call method args.now)) }
 {
     match steps.get(first) {
@@ -40,16 +46,16 @@ fn stands_before(steps: &[Step], first: usize, number: usize, method: u32, args:
 fn is_again(
     alloc: Global,
     seen: &mut FirstCalls,
-    steps: &[Step],
+    steps: &[BodyStep],
     number: usize,
-    step: &Step,
+    step: &BodyStep,
 ) -> Result<bool, Memory>
     ensures { IfOk result (λ again. IsTrue again
         → (same : ℕ) × (same < number) × (slice_get steps.now same ≡ Some step.now)) }
 {
     match step {
-        Step::Touch(_) => Ok(false),
-        Step::Call { method, args } => {
+        BodyStep::Touch(_) => Ok(false),
+        BodyStep::Call { method, args } => {
             let args = args.as_slice();
             let first = seen.first_number(alloc, *method, args, number)?;
             Ok(stands_before(steps, first, number, *method, args))
@@ -58,10 +64,10 @@ fn is_again(
 }
 
 /// The numbers of the steps, of equal calls that of the first.
-pub(crate) fn differing_steps(alloc: Global, steps: &[Step]) -> Result<Numbers, Memory>
+pub(crate) fn differing_steps(alloc: Global, steps: &[BodyStep]) -> Result<StepNumbers, Memory>
     ensures { IfOk result (HasEach steps.now) }
 {
-    let mut numbers = Numbers::new(alloc);
+    let mut numbers = StepNumbers::new(alloc);
     let mut seen = FirstCalls::new(alloc)?;
     for (number, step) in steps.iter().enumerate() {
         if !is_again(alloc, &mut seen, steps, number, step)? {

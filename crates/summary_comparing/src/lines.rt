@@ -9,9 +9,9 @@ use crate::effect_order::in_effect_order;
 use effect_sets::Effect;
 use itoa::Buffer;
 use std::alloc::Global;
-use text_meaning::push_effects;
 use twe_ast::{Ast, Decl, Item, Name};
 use twe_base::{Bytes, Memory, Place, Word};
+use twe_frontend::push_effects;
 use twe_program::Prog;
 
 /// What is written of the methods and tasks of a program.

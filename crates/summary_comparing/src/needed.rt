@@ -8,7 +8,7 @@ ghost use Rattle.summary_comparing.specs.inner.Differing.{HaveSame, numbered_nee
 use crate::differing::differing_steps;
 use crate::said::said_effect;
 use effect_check::{Act, ActKind, acts_of_body};
-use effect_infer::needs::{Need, Step, steps_of_body};
+use effect_infer::needs::{BodyStep, Need, steps_of_body};
 use effect_sets::{Effect, Effects, Summary};
 use region_paths::{Elem, Elems, Path};
 use std::alloc::Global;
@@ -66,16 +66,16 @@ fn push_step(
     alloc: Global,
     summaries: &[Summary],
     params: u32,
-    step: &Step,
+    step: &BodyStep,
 ) -> Result<(), Memory>
     ensures { OnOk result (needs.new ≡ needs.old ++ said_needs summaries.now params step.now) }
 {
     match step {
-        Step::Touch(need) => {
+        BodyStep::Touch(need) => {
             let effect = touched(alloc, need)?;
             needs.push(said_effect(alloc, &effect, params)?)
         }
-        Step::Call { method, args } => {
+        BodyStep::Call { method, args } => {
             let called = called_needs(alloc, summaries, *method, args.as_slice())?;
             push_said(needs, alloc, params, called.as_slice())
         }
@@ -88,7 +88,7 @@ fn push_numbered(
     alloc: Global,
     summaries: &[Summary],
     params: u32,
-    steps: &[Step],
+    steps: &[BodyStep],
     number: usize,
 ) -> Result<(), Memory>
     ensures { OnOk result (needs.new ≡ needs.old ++ numbered_needs summaries.now params steps.now number) }
@@ -104,7 +104,7 @@ fn steps_needs(
     alloc: Global,
     summaries: &[Summary],
     params: u32,
-    steps: &[Step],
+    steps: &[BodyStep],
     numbers: &[usize],
 ) -> Result<Effects, Memory>
     ensures { IfOk result (λ needs. needs ≡ flat_map (numbered_needs summaries.now params steps.now) numbers.now) }

@@ -10,19 +10,7 @@ ghost use Rattle.summary_comparing.specs.inner.Sources.{has_effect};
 use crate::said::said_elem;
 use crate::standing::{same_elem, same_truth};
 use effect_sets::Effect;
-use region_paths::Elem;
-
-/// The argument for a parameter. Everything else stays.
-fn argument_for(args: &[Elem], elem: Elem) -> Elem
-    ensures { result ≡ fill_elem args.now elem }
-{
-    match elem {
-        Elem::Var(k) => args.get(k as usize).copied().unwrap_or(elem),
-        Elem::Name(_) => elem,
-        Elem::Index(_) => elem,
-        Elem::AnyIndex => elem,
-    }
-}
+use region_paths::{Elem, fill_one};
 
 /// Whether the elements, with these arguments, are said as others. Each call is for elements fewer, of which a path has at most
 /// 32.
@@ -32,7 +20,7 @@ fn are_said_as(params: u32, args: &[Elem], elems: &[Elem], others: &[Elem]) -> b
     match (elems.split_first(), others.split_first()) {
         (None, None) => true,
         (Some((elem, rest)), Some((other, more))) => {
-            same_elem(said_elem(argument_for(args, *elem), params), *other)
+            same_elem(said_elem(fill_one(*elem, args), params), *other)
                 && are_said_as(params, args, rest, more)
         }
         _ => false,

@@ -1,19 +1,19 @@
 //! The search through methods and what their parameters stand for.
 ghost use Rattle.std.specs.Prelude.{◌≡◌, ◌<◌, ◌∷◌, [], length, Some, slice_get, IfNone, IfOk, IfSome, IsTrue, OnOk};
 ghost use Rattle.effect_infer.specs.needs.Needs.{IsNeed};
-ghost use Rattle.summary_comparing.specs.declared.states.State.{State as Named};
+ghost use Rattle.summary_comparing.specs.declared.states.SearchState.{SearchState as Named};
 ghost use Rattle.summary_comparing.specs.Placed.{all_bodies};
 ghost use Rattle.summary_comparing.specs.Chains.{LeadsToNeed};
 ghost use Rattle.summary_comparing.specs.inner.Standing.{same_value, same_values};
 ghost use Rattle.summary_comparing.specs.inner.Search.{AreLinked, CallsListed, HasNoMatch, IsDoneWith, IsFoundAt, IsListed, IsMatchAt, IsStarted, IsStateAt, SearchEnds, StatesGrow};
-ghost use Rattle.effect_infer.specs.declared.needs.need.Step.TheVariants.{Call};
+ghost use Rattle.effect_infer.specs.declared.needs.need.BodyStep.TheVariants.{Call};
 
 use crate::bodies::{BodySteps, Places};
 use crate::seen::StatesSeen;
 use crate::standing::{Values, callee_values, is_match, own_values, same_value};
-use crate::states::{State, States};
+use crate::states::{SearchState, States};
 use crate::walk::walk_up;
-use effect_infer::needs::{Need, Step};
+use effect_infer::needs::{BodyStep, Need};
 use region_paths::Elem;
 use std::alloc::Global;
 use twe_base::Memory;
@@ -40,7 +40,7 @@ fn are_equal_values(first: &[Option<Elem>], second: &[Option<Elem>]) -> bool
 }
 
 /// Whether this is a state of this method with these values.
-fn is_state_of(state: &State, method: u32, values: &Values) -> bool
+fn is_state_of(state: &SearchState, method: u32, values: &Values) -> bool
     ensures { IsTrue result → (state.now.method ≡ method) × (state.now.values ≡ values.now) }
 {
     state.method == method && are_equal_values(state.values.as_slice(), values.as_slice())
@@ -66,7 +66,7 @@ fn push_callee(
     target: &Need,
     at: usize,
     values: &[Option<Elem>],
-    steps: &[Step],
+    steps: &[BodyStep],
     step: usize,
     callee: u32,
     args: &[Elem],
@@ -85,7 +85,7 @@ fn push_callee(
     if is_state(states, place, callee, &given) {
         return Ok(());
     }
-    states.push(State {
+    states.push(SearchState {
         method: callee,
         values: given,
         from: at,
@@ -102,7 +102,7 @@ fn push_callees(
     target: &Need,
     at: usize,
     values: &[Option<Elem>],
-    steps: &[Step],
+    steps: &[BodyStep],
 ) -> Result<(), Memory>
     requires here { IsStateAt bodies.now states.old at values.now steps.now }
     ensures grows { OnOk result (StatesGrow bodies.now target.now states.old states.new) }
@@ -110,8 +110,8 @@ fn push_callees(
 {
     for (step, each) in steps.iter().enumerate() {
         match each {
-            Step::Touch(_) => {}
-            Step::Call { method, args } => push_callee(
+            BodyStep::Touch(_) => {}
+            BodyStep::Call { method, args } => push_callee(
                 states,
                 seen,
                 alloc,
@@ -130,12 +130,12 @@ fn push_callees(
 }
 
 /// The number of the first step that is an access which stands for what is looked for.
-fn matching_step(values: &[Option<Elem>], target: &Need, steps: &[Step]) -> Option<usize>
+fn matching_step(values: &[Option<Elem>], target: &Need, steps: &[BodyStep]) -> Option<usize>
     ensures found { IfSome result (IsMatchAt target.now values.now steps.now) }
     ensures none { IfNone result (HasNoMatch target.now values.now steps.now) }
 {
     for (number, step) in steps.iter().enumerate() {
-        if let Step::Touch(need) = step
+        if let BodyStep::Touch(need) = step
             && is_match(values, need, target)
         {
             return Some(number);
@@ -221,7 +221,7 @@ fn start(
 {
     let _ = bodies;
     let mut states = States::new(alloc);
-    states.push(State {
+    states.push(SearchState {
         method,
         values: own_values(alloc, body.params)?,
         from: 0,

@@ -11,7 +11,7 @@ use crate::said::said_effect;
 use crate::said_match::{is_said_as, some_is_said_as};
 use crate::same_effect::is_same_effect;
 use effect_check::Act;
-use effect_infer::needs::{Need, Step};
+use effect_infer::needs::{BodyStep, Need};
 use effect_sets::{Effect, Effects, Summary};
 use region_paths::Elem;
 use std::alloc::Global;
@@ -55,14 +55,14 @@ fn step_needs_it(
     alloc: Global,
     summaries: &[Summary],
     params: u32,
-    step: &Step,
+    step: &BodyStep,
     effect: &Effect,
 ) -> Result<bool, Memory>
     ensures { IfOk result (λ needs. needs ≡ has_effect (said_needs summaries.now params step.now) effect.now) }
 {
     match step {
-        Step::Touch(need) => touch_needs_it(alloc, params, need, effect),
-        Step::Call { method, args } => Ok(call_needs_it(
+        BodyStep::Touch(need) => touch_needs_it(alloc, params, need, effect),
+        BodyStep::Call { method, args } => Ok(call_needs_it(
             summaries,
             params,
             *method,
@@ -77,7 +77,7 @@ fn numbered_needs_it(
     alloc: Global,
     summaries: &[Summary],
     params: u32,
-    steps: &[Step],
+    steps: &[BodyStep],
     number: usize,
     effect: &Effect,
 ) -> Result<bool, Memory>
@@ -95,7 +95,7 @@ pub(crate) fn steps_before(
     alloc: Global,
     summaries: &[Summary],
     params: u32,
-    steps: &[Step],
+    steps: &[BodyStep],
     numbers: &[usize],
     effect: &Effect,
 ) -> Result<usize, Memory>

@@ -5,7 +5,7 @@ use twe_base::List;
 
 /// A method, what its parameters stand for, and how the search came there.
 #[derive(Debug, Drop)]
-pub(crate) struct State {
+pub(crate) struct SearchState {
     /// The number of the method.
     pub method: u32,
     /// What its parameters stand for.
@@ -17,4 +17,4 @@ pub(crate) struct State {
 }
 
 /// States in the order in which they were found.
-pub(crate) type States = List<State>;
+pub(crate) type States = List<SearchState>;

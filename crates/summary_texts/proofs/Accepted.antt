@@ -11,10 +11,10 @@ use Rattle.ast_printer.specs.ParsesAgain.{IsTextOf, ParsesAgain}
 use Rattle.ast_printer.proofs.ParsedAgain.{parses_again}
 use Rattle.effect_infer.specs.needs.Choices.{NoRuleFails, with_summaries}
 use Rattle.effect_infer.specs.Inferred.{AreLeast}
-use Rattle.pasting_laws.specs.Clauses.{pasted}
-use Rattle.pasting_laws.specs.Pasted.{CanBePasted, IsPasted}
-use Rattle.pasting_laws.proofs.Whole.{least-printed, least-meant, least-accepted}
-use Rattle.text_meaning.specs.Meaning.{TextMeans}
+use Rattle.summary_texts.specs.paste_laws.Clauses.{pasted}
+use Rattle.summary_texts.specs.paste_laws.Pasted.{CanBePasted, IsPasted}
+use Rattle.summary_texts.proofs.paste_laws.Whole.{least-printed, least-meant, least-accepted}
+use Rattle.twe_frontend.specs.meaning.Meaning.{TextMeans}
 use Rattle.summary_texts.specs.Pasting.{in_line}
 use Rattle.summary_texts.proofs.SameEffects.{lines-same}
 use Rattle.summary_texts.proofs.SameTree.{OneTree, same_tree}

@@ -16,9 +16,9 @@ use Rattle.ast_printer.specs.PathTokens.{elem_tokens, elems_tokens, path_tokens}
 use Rattle.ast_printer.specs.ItemTokens.{paths_tokens, effects_tokens}
 use Rattle.ast_printer.proofs.Texts.{append_text}
 use Rattle.twe_base.proofs.Members.{all-front, all-back}
-use Rattle.pasting_laws.specs.Clauses.{name_at, texts_of, clause_kind_of, elem_of, clause_path_of, clause_of, reads_of, writes_of, clauses_of, IsWritable, CanBeWritten}
+use Rattle.summary_texts.specs.paste_laws.Clauses.{name_at, texts_of, clause_kind_of, elem_of, clause_path_of, clause_of, reads_of, writes_of, clauses_of, IsWritable, CanBeWritten}
 use Rattle.summary_texts.specs.Order.{summary_paths_of}
-use Rattle.text_meaning.specs.PathTexts.{in_brackets, element_text, more_elements, path_text}
+use Rattle.twe_frontend.specs.meaning.PathTexts.{in_brackets, element_text, more_elements, path_text}
 use Rattle.summary_texts.specs.Texts.{more_paths, paths_text, clauses_text, summary_text}
 use Rattle.summary_texts.specs.Pasting.{effect_on, in_line, is_blank_byte, without_blanks}
 

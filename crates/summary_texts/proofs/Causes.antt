@@ -14,7 +14,7 @@ use Rattle.twe_ast.specs.declared.item.Item.TheVariants.{Method}
 use Rattle.twe_program.specs.Program.{Program}
 use Rattle.twe_names.specs.Meaning.{program_of}
 use Rattle.ast_printer.specs.ItemTokens.{printed_tokens}
-use Rattle.text_meaning.specs.Meaning.{TextMeans}
+use Rattle.twe_frontend.specs.meaning.Meaning.{TextMeans}
 use Rattle.summary_texts.specs.Written.{HasSummaries}
 use Rattle.summary_texts.specs.News.{bytes_of_new, bytes_of_news, new_of, news_of}
 use Rattle.summary_texts.specs.declared.fail.PasteFail.{PasteFail}

@@ -10,7 +10,7 @@ use Rattle.region_paths.specs.declared.elements.Elem.{Elem}
 use Rattle.region_paths.specs.declared.elements.Elem.TheVariants.{Name, Index, Var, AnyIndex}
 use Rattle.effect_sets.specs.declared.effects.Effect.{Effect}
 use Rattle.effect_sets.specs.declared.effects.Summary.{Summary}
-use Rattle.pasting_laws.specs.Clauses.{CanBeWritten, IsWritable, elements_written}
+use Rattle.summary_texts.specs.paste_laws.Clauses.{CanBeWritten, IsWritable, elements_written}
 use Rattle.summary_texts.specs.Order.{summary_paths_of}
 use Rattle.summary_texts.specs.Pasting.{effect_on, in_line}
 use Rattle.summary_texts.specs.Writable.{is_writable, is_writable_elem, is_writable_index, is_writable_path}

@@ -5,7 +5,7 @@ use Rattle.effect_sets.specs.declared.effects.Summary.{Summary}
 use Rattle.twe_ast.specs.declared.item.Clause.{Clause}
 use Rattle.twe_ast.specs.declared.name.Name as written
 use Rattle.twe_ast.specs.declared.path.Path.{Path}
-use Rattle.pasting_laws.specs.Clauses.{clause_of, clause_path_of, clauses_of, texts_of}
+use Rattle.summary_texts.specs.paste_laws.Clauses.{clause_of, clause_path_of, clauses_of, texts_of}
 use Rattle.summary_texts.specs.Order.{summary_paths_of}
 use Rattle.summary_texts.specs.Pasting.{effect_on, in_line}
 use Rattle.summary_texts.proofs.Blanks.{only-reads, only-writes}

@@ -12,7 +12,7 @@ use Rattle.twe_ast.specs.declared.name.Name as written
 use Rattle.twe_ast.specs.declared.item.Item.{Item}
 use Rattle.twe_ast.specs.declared.item.Item.TheVariants.{Regions, Cell, Method, Task}
 use Rattle.twe_names.specs.Meaning.{program_of}
-use Rattle.pasting_laws.specs.Clauses.{pasted, pasted_items, with_clauses}
+use Rattle.summary_texts.specs.paste_laws.Clauses.{pasted, pasted_items, with_clauses}
 use Rattle.summary_texts.specs.Pasting.{in_line}
 use Rattle.summary_texts.specs.Items.{decl_with_summary, items_with, tree_with}
 use Rattle.summary_texts.specs.inner.LineClauses.{line_clauses}

@@ -9,13 +9,13 @@ use Rattle.twe_program.specs.declared.program.CellDecl.{CellDecl}
 use Rattle.twe_program.specs.declared.program.Decl.{Decl}
 use Rattle.twe_program.specs.Program.{Program}
 use Rattle.effect_infer.specs.declared.needs.need.Need.{Need}
-use Rattle.effect_infer.specs.declared.needs.need.Step.{Step}
-use Rattle.effect_infer.specs.declared.needs.need.Step.TheVariants.{Touch, Call}
+use Rattle.effect_infer.specs.declared.needs.need.BodyStep.{BodyStep}
+use Rattle.effect_infer.specs.declared.needs.need.BodyStep.TheVariants.{Touch, Call}
 use Rattle.effect_infer.specs.needs.Steps.{steps_in_all}
 use Rattle.effect_infer.specs.needs.Needs.{IsNeed, own, called, IsWidest, HasStep, settled, filled_need}
 use Rattle.effect_infer.specs.needs.Choices.{with_each, with_summaries}
 use Rattle.effect_infer.specs.Inferred.{AreWidest, HasTooMany, IsLeast}
-use Rattle.pasting_laws.specs.places.Places.{bare_program, placeless_cell, placeless_decl, SameButPlaces}
+use Rattle.summary_texts.specs.paste_laws.places.Places.{bare_program, placeless_cell, placeless_decl, SameButPlaces}
 use Rattle.summary_texts.proofs.SameSteps.{of-statements}
 
 -- a declaration with the same parameters, whose body has the same steps
@@ -29,10 +29,10 @@ HaveSameSteps p q = (m : ℕ) (decl : Decl) → slice_get p.methods m ≡ Some d
     → (its : Decl) × (slice_get q.methods m ≡ Some its) × HasSameSteps p.cells q.cells decl its
 
 module _ (p q : Program) (same : HaveSameSteps p q) where
-  has-step : (m : ℕ) (decl : Decl) (step : Step) → HasStep p m decl step → (its : Decl) × (its.params ≡ decl.params) × HasStep q m its step
+  has-step : (m : ℕ) (decl : Decl) (step : BodyStep) → HasStep p m decl step → (its : Decl) × (its.params ≡ decl.params) × HasStep q m its step
   has-step m decl step has =
       let its = same m decl has.0 in
-      (its.0, its.2.params, (its.1, subst (λ (steps : List Step). Contains steps step) (sym its.2.steps) has.1))
+      (its.0, its.2.params, (its.1, subst (λ (steps : List BodyStep). Contains steps step) (sym its.2.steps) has.1))
 
   need-moved : (m : ℕ) (need : Need) → IsNeed p m need → IsNeed q m need
   need-moved m need (own n decl inner has) =

@@ -11,8 +11,8 @@ use Rattle.twe_ast.specs.declared.item.Item.TheVariants.{Regions, Cell, Method, 
 use Rattle.twe_ast.specs.declared.name.Name as written
 use Rattle.ast_printer.specs.BareExpression.{bare_name, nowhere}
 use Rattle.ast_printer.specs.BareItem.{bare_item}
-use Rattle.text_meaning.specs.PathTexts.{element_text, in_brackets, more_elements, name_at_number, path_text}
-use Rattle.pasting_laws.specs.Clauses.{pasted_items, texts_of}
+use Rattle.twe_frontend.specs.meaning.PathTexts.{element_text, in_brackets, more_elements, name_at_number, path_text}
+use Rattle.summary_texts.specs.paste_laws.Clauses.{pasted_items, texts_of}
 use Rattle.summary_texts.specs.Order.{summary_paths_of}
 use Rattle.summary_texts.specs.Texts.{clauses_text, more_paths, paths_text}
 use Rattle.summary_texts.specs.News.{new_of, news_of}

@@ -6,10 +6,10 @@ use Rattle.twe_program.specs.Expression.{Expression, Literal, Truth, Variable, C
 use Rattle.twe_program.specs.Expression as args
 use Rattle.twe_program.specs.Statement.{Statement, Block, Let, Set, SetCell, SetArray, SetGrid, If, While, Return, Print, Call, Make, Wait, Statements, no_more, statement, Arms, arm, otherwise, no_else}
 use Rattle.effect_check.specs.Standing.{element_of_index}
-use Rattle.effect_infer.specs.declared.needs.need.Step.TheVariants as kinds
+use Rattle.effect_infer.specs.declared.needs.need.BodyStep.TheVariants as kinds
 use Rattle.effect_infer.specs.needs.Steps.{declared_cell, touch_step, print, steps_of, steps_of_all, steps_of_value, steps_in, steps_in_all, steps_in_one}
-use Rattle.pasting_laws.specs.places.Places.{bare_expression, bare_arguments, placeless_value, bare_statement, bare_statements, bare_arms, placeless_cell}
-use Rattle.pasting_laws.proofs.places.Acts.{same_element, same_elements, same_cell}
+use Rattle.summary_texts.specs.paste_laws.places.Places.{bare_expression, bare_arguments, placeless_value, bare_statement, bare_statements, bare_arms, placeless_cell}
+use Rattle.summary_texts.proofs.paste_laws.places.Acts.{same_element, same_elements, same_cell}
 
 module _ (cells : List CellDecl) where
   abbrev bare : List CellDecl

@@ -10,10 +10,10 @@ use Rattle.twe_names.specs.Meaning.{program_of}
 use Rattle.ast_printer.specs.BareItem.{bare_item}
 use Rattle.effect_infer.specs.needs.Choices.{with_summaries}
 use Rattle.effect_infer.specs.Inferred.{AreEachLeast, AreLeast, IsLeast, IsLeastIfFew}
-use Rattle.pasting_laws.specs.places.Places.{SameButPlaces}
-use Rattle.pasting_laws.specs.Clauses.{pasted, pasted_items}
-use Rattle.pasting_laws.specs.Pasted.{IsPasted}
-use Rattle.text_meaning.specs.Meaning.{TextMeans}
+use Rattle.summary_texts.specs.paste_laws.places.Places.{SameButPlaces}
+use Rattle.summary_texts.specs.paste_laws.Clauses.{pasted, pasted_items}
+use Rattle.summary_texts.specs.paste_laws.Pasted.{IsPasted}
+use Rattle.twe_frontend.specs.meaning.Meaning.{TextMeans}
 use Rattle.summary_texts.specs.Written.{HasSummaries}
 use Rattle.summary_texts.proofs.Whole.{one_text}
 use Rattle.summary_texts.specs.Pasting.{in_line}

@@ -6,7 +6,7 @@ use Rattle.twe_ast.specs.declared.item.Decl.{Decl}
 use Rattle.twe_ast.specs.declared.item.Item.{Item}
 use Rattle.twe_ast.specs.declared.item.Item.TheVariants.{Regions, Cell, Method, Task}
 use Rattle.twe_names.specs.Meaning.{program_of}
-use Rattle.pasting_laws.specs.Clauses.{with_clauses}
+use Rattle.summary_texts.specs.paste_laws.Clauses.{with_clauses}
 use Rattle.summary_texts.specs.Pasting.{in_line}
 use Rattle.summary_texts.specs.Writable.{is_writable}
 

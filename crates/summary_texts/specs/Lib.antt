@@ -8,3 +8,4 @@ pub mod Pasting
 pub mod Texts
 pub mod Writable
 pub mod inner
+pub mod paste_laws

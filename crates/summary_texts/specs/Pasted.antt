@@ -8,7 +8,7 @@ use Rattle.twe_program.specs.Program.{Program}
 use Rattle.twe_names.specs.Meaning.{program_of}
 use Rattle.twe_frontend.specs.declared.refusal.Refusal.{Refusal}
 use Rattle.ast_printer.specs.ItemTokens.{printed_tokens}
-use Rattle.text_meaning.specs.Meaning.{IsRefusedBefore, TextMeans}
+use Rattle.twe_frontend.specs.meaning.Meaning.{IsRefusedBefore, TextMeans}
 use Rattle.summary_texts.specs.Written.{HasSummaries}
 use Rattle.summary_texts.specs.declared.fail.PasteFail.{PasteFail}
 use Rattle.summary_texts.specs.declared.fail.PasteFail.TheVariants.{TooLong, Differs, OutOfMemory}

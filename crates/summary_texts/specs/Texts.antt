@@ -3,7 +3,7 @@ use Rattle.std.specs.Prelude.{ℕ, true, false, List, [], ◌∷◌, ◌++◌, c
 use Rattle.region_paths.specs.declared.elements.Elem.{Elem}
 use Rattle.effect_sets.specs.declared.effects.Summary.{Summary}
 use Rattle.twe_ast.specs.declared.name.Name as written
-use Rattle.text_meaning.specs.PathTexts.{path_text}
+use Rattle.twe_frontend.specs.meaning.PathTexts.{path_text}
 use Rattle.summary_texts.specs.Order.{summary_paths_of}
 
 -- the paths, each after `, `

@@ -1,6 +1,6 @@
 //! The clauses of a summary as a tree has them.
 ghost use Rattle.std.specs.Prelude.{◌≡◌, ◌++◌, map, IfOk, OnOk};
-ghost use Rattle.pasting_laws.specs.Clauses.{clause_kind_of, elem_of, name_at, texts_of};
+ghost use Rattle.summary_texts.specs.paste_laws.Clauses.{clause_kind_of, elem_of, name_at, texts_of};
 ghost use Rattle.summary_texts.specs.Order.{summary_paths_of};
 ghost use Rattle.summary_texts.specs.inner.LineClauses.{line_clause, line_clauses, line_path};
 

@@ -14,6 +14,7 @@ mod lexemes;
 mod news;
 mod order;
 mod paste;
+pub mod paste_laws;
 mod pasted_laws;
 mod text;
 mod words;

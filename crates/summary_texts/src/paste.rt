@@ -1,7 +1,7 @@
 //! From a text and summaries of its methods to the text with these.
 ghost use Rattle.std.specs.Prelude.{◌≡◌, bytes_eq, IfErr, IfOk, OnOk};
 ghost use Rattle.ast_printer.specs.ItemTokens.{printed_tokens};
-ghost use Rattle.text_meaning.specs.Meaning.{TextMeans};
+ghost use Rattle.twe_frontend.specs.meaning.Meaning.{TextMeans};
 ghost use Rattle.twe_names.specs.Meaning.{program_of};
 ghost use Rattle.summary_texts.specs.Items.{tree_with};
 ghost use Rattle.summary_texts.specs.Pasted.{AgainHasCause, IsPastedText, IsReadAgain, PasteHasCause, SettledHasCause};
@@ -17,10 +17,9 @@ use crate::written_text::write_summaries;
 use ast_printer::print_ast;
 use effect_sets::Summary;
 use std::alloc::Global;
-use text_meaning::{Meaning, read_meaning};
 use twe_ast::Ast;
 use twe_base::{Bytes, MAX_TEXT_BYTES, Memory};
-use twe_frontend::FrontFail;
+use twe_frontend::{FrontFail, Meaning, read_meaning};
 
 /// Whether two trees are printed alike.
 fn are_alike(alloc: Global, tree: &Ast, other: &Ast) -> Result<bool, Memory>

@@ -7,8 +7,8 @@ ghost use Rattle.twe_program.specs.Program.{Program};
 ghost use Rattle.twe_frontend.specs.Accepted.{Accepted, IsMeaningOf};
 ghost use Rattle.effect_infer.specs.needs.Choices.{NoRuleFails, with_summaries};
 ghost use Rattle.effect_infer.specs.Inferred.{AreEachLeast, AreLeast};
-ghost use Rattle.pasting_laws.specs.Pasted.{IsPasted};
-ghost use Rattle.text_meaning.specs.Meaning.{TextMeans};
+ghost use Rattle.summary_texts.specs.paste_laws.Pasted.{IsPasted};
+ghost use Rattle.twe_frontend.specs.meaning.Meaning.{TextMeans};
 ghost use Rattle.summary_texts.specs.Pasted.{HasSummariesOf, IsPastedText};
 ghost use Rattle.summary_texts.specs.Writable.{is_writable};
 

@@ -6,9 +6,9 @@ use crate::order::paths_of;
 use effect_sets::Summary;
 use region_paths::Elems;
 use std::alloc::Global;
-use text_meaning::push_path;
 use twe_ast::Name;
 use twe_base::{Bytes, Memory, Word};
+use twe_frontend::push_path;
 
 /// Appends paths, with `, ` between them.
 fn push_paths(

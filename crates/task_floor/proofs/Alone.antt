@@ -5,25 +5,25 @@ use Rattle.std.proofs.lemmas.Option.{slice_get_within}
 use Rattle.region_paths.specs.declared.elements.Elem.{Elem}
 use Rattle.twe_base.specs.Limits.{Bounds}
 use Rattle.twe_program.specs.Program.{Program}
-use Rattle.twe_machine.specs.declared.state.State.{State}
-use Rattle.twe_machine.specs.declared.state.TaskRow.{TaskRow}
-use Rattle.twe_machine.specs.declared.state.TaskStatus.{TaskStatus}
-use Rattle.twe_machine.specs.declared.state.TaskStatus.TheVariants as status
-use Rattle.twe_machine.specs.Rows.{row_awaited}
+use Rattle.machine_state.specs.declared.state.State.{State}
+use Rattle.machine_state.specs.declared.state.TaskRow.{TaskRow}
+use Rattle.machine_state.specs.declared.state.TaskStatus.{TaskStatus}
+use Rattle.machine_state.specs.declared.state.TaskStatus.TheVariants as status
+use Rattle.machine_state.specs.Rows.{row_awaited}
 use Rattle.seg_journal.specs.declared.numbered.NumberedEntry.{NumberedEntry}
 use Rattle.seg_journal.specs.Merging.{AreNumbered, IsMergeOf}
-use Rattle.floor_rule.specs.declared.view.Phase.TheVariants as phases
-use Rattle.floor_rule.specs.declared.view.TaskSlot.{TaskSlot}
-use Rattle.floor_rule.specs.Rows.{phase_at, phase_of}
-use Rattle.floor_rule.proofs.Puts.{put_here}
-use Rattle.floor_table.specs.Alone.{IsAloneAt}
-use Rattle.floor_table.specs.FloorOf.{turn_in}
-use Rattle.floor_table.specs.Layout.{phase_of_word}
-use Rattle.floor_table.specs.Tells.{Seat}
-use Rattle.floor_table.specs.declared.view.View.{View}
-use Rattle.floor_table.specs.nodes.Alone.{LearnsAlone}
-use Rattle.floor_table.specs.nodes.Follows.{FollowedPhase}
-use Rattle.floor_table.specs.nodes.Seats.{TreeSeat}
+use Rattle.floor_laws.specs.declared.rule.view.Phase.TheVariants as phases
+use Rattle.floor_laws.specs.declared.rule.view.TaskSlot.{TaskSlot}
+use Rattle.floor_laws.specs.rule.Rows.{phase_at, phase_of}
+use Rattle.floor_laws.proofs.rule.Puts.{put_here}
+use Rattle.floor_laws.specs.table.Alone.{IsAloneAt}
+use Rattle.floor_laws.specs.table.FloorOf.{turn_in}
+use Rattle.floor_laws.specs.table.Layout.{phase_of_word}
+use Rattle.floor_laws.specs.table.Tells.{Seat}
+use Rattle.floor_laws.specs.declared.table.view.View.{View}
+use Rattle.floor_laws.specs.table.nodes.Alone.{LearnsAlone}
+use Rattle.floor_laws.specs.table.nodes.Follows.{FollowedPhase}
+use Rattle.floor_laws.specs.table.nodes.Seats.{TreeSeat}
 use Rattle.task_floor.specs.declared.steps.readiness.Readiness.TheVariants as readiness
 use Rattle.task_floor.specs.Alone.{IsNewIfAlone, IsUndoneIfAlone}
 use Rattle.task_floor.specs.Turns.{HasTakenTask}

@@ -3,20 +3,20 @@ use Rattle.std.proofs.Common.{◌≡◌, ◌<◌, ℕ, List, Option, None, Some,
 use Rattle.std.specs.Prelude.{is_some}
 use Rattle.region_paths.specs.declared.elements.Elem.{Elem}
 use Rattle.twe_base.specs.Limits.{Bounds}
-use Rattle.twe_machine.specs.declared.state.TaskRow.{TaskRow}
-use Rattle.twe_machine.specs.declared.state.TaskStatus.TheVariants as status
-use Rattle.twe_machine.specs.Moves.{status_at_start}
-use Rattle.floor_rule.specs.declared.view.TaskSlot.{TaskSlot}
-use Rattle.floor_rule.specs.Rows.{slot_of}
-use Rattle.floor_rule.specs.Steps.{first_turn}
-use Rattle.floor_rule.proofs.Puts.{none_some, put_here, some_one}
-use Rattle.floor_table.specs.FloorOf.{turn_in}
+use Rattle.machine_state.specs.declared.state.TaskRow.{TaskRow}
+use Rattle.machine_state.specs.declared.state.TaskStatus.TheVariants as status
+use Rattle.machine_state.specs.Moves.{status_at_start}
+use Rattle.floor_laws.specs.declared.rule.view.TaskSlot.{TaskSlot}
+use Rattle.floor_laws.specs.rule.Rows.{slot_of}
+use Rattle.floor_laws.specs.rule.Steps.{first_turn}
+use Rattle.floor_laws.proofs.rule.Puts.{none_some, put_here, some_one}
+use Rattle.floor_laws.specs.table.FloorOf.{turn_in}
 use Rattle.task_floor.specs.steps.Leaving.{MayLeave}
-use Rattle.floor_rule.specs.nodes.TurnSteps.{LeavesNone}
-use Rattle.floor_table.specs.declared.nodes.view.TreeView.{TreeView}
-use Rattle.floor_table.specs.nodes.FloorSeats.{HasTaskSlots, floor_seat, tasks_out}
-use Rattle.floor_table.specs.nodes.Seats.{TreeSeat, tree_seen}
-use Rattle.floor_table.specs.nodes.TurnSeats.{MayLeaveTask, given_tree_view, gives_first}
+use Rattle.floor_laws.specs.rule.nodes.TurnSteps.{LeavesNone}
+use Rattle.floor_laws.specs.declared.table.nodes.view.TreeView.{TreeView}
+use Rattle.floor_laws.specs.table.nodes.FloorSeats.{HasTaskSlots, floor_seat, tasks_out}
+use Rattle.floor_laws.specs.table.nodes.Seats.{TreeSeat, tree_seen}
+use Rattle.floor_laws.specs.table.nodes.TurnSeats.{MayLeaveTask, given_tree_view, gives_first}
 use Rattle.task_floor.specs.Committing.{left_to_place, made_in, spawned_slot, with_first, with_made}
 use Rattle.task_floor.specs.Leaving.{HasLeftTask, MayGiveNew, stored_view}
 use Rattle.task_floor.specs.inner.Bringing.{MayBringBeside}

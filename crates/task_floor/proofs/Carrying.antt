@@ -2,19 +2,19 @@
 use Rattle.std.proofs.Common.{◌≡◌, ℕ, List, [], ◌∷◌, Option, None, sym, ap, subst, ◌∙◌}
 use Rattle.twe_program.specs.Program.{Program}
 use Rattle.twe_program.specs.WellFormed.{IsWellFormed}
-use Rattle.seg_exec.specs.declared.frame.Frame.{Frame}
-use Rattle.seg_exec.specs.declared.stop.Stop.{Stop}
-use Rattle.seg_exec.specs.Access.{Access, Reads, Writes, Prints, Follows, MayAll, after}
-use Rattle.seg_exec.specs.Segment.{CarriesOut, MayCarryOut, segment}
-use Rattle.floor_rule.specs.declared.view.DoneFact.{DoneFact}
-use Rattle.floor_rule.specs.declared.view.HeldTurn.{HeldTurn}
-use Rattle.floor_rule.specs.declared.view.OpenSegment.{OpenSegment}
-use Rattle.floor_rule.specs.Fitting.{MayRunFrom}
-use Rattle.floor_rule.specs.Touches.{accesses_of, touches_of}
-use Rattle.floor_rule.proofs.Puts.{none_some}
-use Rattle.floor_table.specs.FloorOf.{turn_in}
-use Rattle.floor_table.specs.Tells.{Seat}
-use Rattle.floor_table.specs.nodes.FloorSeats.{floor_seat, tasks_out}
+use Rattle.seg_meaning.specs.declared.frame.Frame.{Frame}
+use Rattle.seg_meaning.specs.declared.stop.Stop.{Stop}
+use Rattle.seg_meaning.specs.Access.{Access, Reads, Writes, Prints, Follows, MayAll, after}
+use Rattle.seg_meaning.specs.Segment.{CarriesOut, MayCarryOut, segment}
+use Rattle.floor_laws.specs.declared.rule.view.DoneFact.{DoneFact}
+use Rattle.floor_laws.specs.declared.rule.view.HeldTurn.{HeldTurn}
+use Rattle.floor_laws.specs.declared.rule.view.OpenSegment.{OpenSegment}
+use Rattle.floor_laws.specs.rule.Fitting.{MayRunFrom}
+use Rattle.floor_laws.specs.rule.Touches.{accesses_of, touches_of}
+use Rattle.floor_laws.proofs.rule.Puts.{none_some}
+use Rattle.floor_laws.specs.table.FloorOf.{turn_in}
+use Rattle.floor_laws.specs.table.Tells.{Seat}
+use Rattle.floor_laws.specs.table.nodes.FloorSeats.{floor_seat, tasks_out}
 use Rattle.task_floor.specs.declared.in_hand.CellInHand.TheVariants.{Nothing}
 use Rattle.task_floor.specs.Stands.{TreeStand, floor_stand}
 use Rattle.task_floor.specs.inner.InHand.{GoesOver, SegFollows, SegView, Shows, TouchesAlone, seg_ways}

@@ -7,29 +7,29 @@ use Rattle.twe_base.specs.declared.fault.FaultKind.TheVariants.{TaskLimit}
 use Rattle.twe_base.specs.Limits.{Bounds}
 use Rattle.seg_journal.specs.declared.journal.End.{End}
 use Rattle.seg_journal.specs.declared.journal.End.TheVariants as ends
-use Rattle.seg_exec.specs.declared.frame.Frame.{Frame}
-use Rattle.seg_exec.specs.declared.stop.Stop.{Stop}
-use Rattle.seg_exec.specs.declared.stop.Stop.TheVariants as stops
-use Rattle.twe_machine.specs.declared.state.TaskRow.{TaskRow}
-use Rattle.twe_machine.specs.Moves.{new_row, parent_of, status_at_start}
+use Rattle.seg_meaning.specs.declared.frame.Frame.{Frame}
+use Rattle.seg_meaning.specs.declared.stop.Stop.{Stop}
+use Rattle.seg_meaning.specs.declared.stop.Stop.TheVariants as stops
+use Rattle.machine_state.specs.declared.state.TaskRow.{TaskRow}
+use Rattle.machine_state.specs.Moves.{new_row, parent_of, status_at_start}
 use Rattle.seg_journal.specs.declared.numbered.NumberedEntry.{NumberedEntry}
-use Rattle.floor_rule.specs.declared.view.HeldTurn.{HeldTurn}
-use Rattle.floor_rule.specs.declared.view.TaskSlot.{TaskSlot}
-use Rattle.floor_rule.specs.Rows.{phase_of, slot_of}
-use Rattle.floor_rule.specs.Steps.{end_after, first_turn, row_after}
-use Rattle.floor_rule.proofs.Puts.{none_some, put_else, put_here, some_one}
-use Rattle.floor_table.specs.declared.view.TurnChange.{TurnChange}
-use Rattle.floor_table.specs.FloorOf.{turn_in}
-use Rattle.floor_table.specs.Layout.{asked_of_clock}
-use Rattle.floor_table.specs.Tells.{drawn_view, entry_at}
+use Rattle.floor_laws.specs.declared.rule.view.HeldTurn.{HeldTurn}
+use Rattle.floor_laws.specs.declared.rule.view.TaskSlot.{TaskSlot}
+use Rattle.floor_laws.specs.rule.Rows.{phase_of, slot_of}
+use Rattle.floor_laws.specs.rule.Steps.{end_after, first_turn, row_after}
+use Rattle.floor_laws.proofs.rule.Puts.{none_some, put_else, put_here, some_one}
+use Rattle.floor_laws.specs.declared.table.view.TurnChange.{TurnChange}
+use Rattle.floor_laws.specs.table.FloorOf.{turn_in}
+use Rattle.floor_laws.specs.table.Layout.{asked_of_clock}
+use Rattle.floor_laws.specs.table.Tells.{drawn_view, entry_at}
 use Rattle.task_floor.specs.steps.Committing.{Log, child_row}
 use Rattle.task_floor.proofs.steps.CommittedEntries.{child_below}
-use Rattle.admission_laws.specs.admission_core.States.{IsAmong}
-use Rattle.floor_rule.proofs.nodes.TaskChanges.{among_others}
-use Rattle.floor_table.specs.declared.nodes.slot.TreeSlot.{TreeSlot}
-use Rattle.floor_table.specs.declared.nodes.slot.TreeSlot.TheVariants as kinds
-use Rattle.floor_table.specs.nodes.Seats.{TreeSeat}
-use Rattle.floor_table.specs.nodes.TreeOf.{content_in}
+use Rattle.floor_laws.specs.admission.admission_core.States.{IsAmong}
+use Rattle.floor_laws.proofs.rule.nodes.TaskChanges.{among_others}
+use Rattle.floor_laws.specs.declared.table.nodes.slot.TreeSlot.{TreeSlot}
+use Rattle.floor_laws.specs.declared.table.nodes.slot.TreeSlot.TheVariants as kinds
+use Rattle.floor_laws.specs.table.nodes.Seats.{TreeSeat}
+use Rattle.floor_laws.specs.table.nodes.TreeOf.{content_in}
 use Rattle.task_floor.specs.Committing.{HasCommittedBeside, left_to_place, made_in, spawned_slot, with_first, with_first_given, with_made}
 use Rattle.task_floor.specs.Holding.{HoldsChildBeside, HoldsDrawnBeside, HoldsOneBeside}
 

@@ -4,25 +4,25 @@ use Rattle.std.specs.Prelude.{option_map}
 use Rattle.std.specs.Option.{ForSome}
 use Rattle.twe_base.specs.Limits.{Bounds}
 use Rattle.twe_program.specs.Program.{Program}
-use Rattle.seg_exec.specs.declared.stop.Stop.{Stop}
-use Rattle.twe_machine.specs.declared.state.TaskRow.{TaskRow}
-use Rattle.floor_rule.specs.declared.view.HeldTurn.{HeldTurn}
-use Rattle.floor_rule.specs.declared.view.TaskSlot.{TaskSlot}
-use Rattle.floor_rule.specs.Rows.{slot_of}
-use Rattle.floor_table.specs.declared.view.SeatKind.TheVariants.{Spent}
-use Rattle.floor_table.specs.declared.view.View.{View}
-use Rattle.floor_table.specs.FloorOf.{turn_in}
-use Rattle.floor_table.specs.Layout.{asked_of_clock}
-use Rattle.floor_table.specs.Tells.{DrewOne, Seat, drawn_seat, drawn_view}
+use Rattle.seg_meaning.specs.declared.stop.Stop.{Stop}
+use Rattle.machine_state.specs.declared.state.TaskRow.{TaskRow}
+use Rattle.floor_laws.specs.declared.rule.view.HeldTurn.{HeldTurn}
+use Rattle.floor_laws.specs.declared.rule.view.TaskSlot.{TaskSlot}
+use Rattle.floor_laws.specs.rule.Rows.{slot_of}
+use Rattle.floor_laws.specs.declared.table.view.SeatKind.TheVariants.{Spent}
+use Rattle.floor_laws.specs.declared.table.view.View.{View}
+use Rattle.floor_laws.specs.table.FloorOf.{turn_in}
+use Rattle.floor_laws.specs.table.Layout.{asked_of_clock}
+use Rattle.floor_laws.specs.table.Tells.{DrewOne, Seat, drawn_seat, drawn_view}
 use Rattle.task_floor.specs.steps.Committing.{child_row}
 use Rattle.task_floor.specs.steps.inner.Bringing.{MayBring, seat_with}
 use Rattle.task_floor.proofs.steps.CommittedEntries.{drawn_is, drawn_kind, may_bring}
-use Rattle.floor_table.specs.declared.nodes.slot.TreeSlot.{TreeSlot}
-use Rattle.floor_table.specs.declared.nodes.view.TreeView.{TreeView}
-use Rattle.floor_table.specs.nodes.EntrySeats.{DrewTreeEntry}
-use Rattle.floor_table.specs.nodes.FloorSeats.{HasTaskSlots, TellsFloor, as_slot, floor_seat, tasks_out}
-use Rattle.floor_table.specs.nodes.Seats.{TreeSeat}
-use Rattle.floor_table.proofs.nodes.Lifts.{out_again}
+use Rattle.floor_laws.specs.declared.table.nodes.slot.TreeSlot.{TreeSlot}
+use Rattle.floor_laws.specs.declared.table.nodes.view.TreeView.{TreeView}
+use Rattle.floor_laws.specs.table.nodes.EntrySeats.{DrewTreeEntry}
+use Rattle.floor_laws.specs.table.nodes.FloorSeats.{HasTaskSlots, TellsFloor, as_slot, floor_seat, tasks_out}
+use Rattle.floor_laws.specs.table.nodes.Seats.{TreeSeat}
+use Rattle.floor_laws.proofs.table.nodes.Lifts.{out_again}
 use Rattle.task_floor.specs.Committing.{MayCommitBeside, made_in, with_first, with_made}
 use Rattle.task_floor.specs.inner.Bringing.{MayBringBeside, tree_seat_with}
 use Rattle.task_floor.proofs.Told.{floor_after, told}

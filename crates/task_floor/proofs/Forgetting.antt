@@ -2,11 +2,11 @@
 use Rattle.std.proofs.Common.{◌≡◌, ◌≢◌, ◌++◌, ℕ, zero, suc, Bool, List, [], ◌∷◌, if◌then◌else◌, refl, ap, ◌∙◌, inl, inr, eq-eqb, ne_eqb, length}
 use Rattle.region_paths.specs.declared.elements.Elem.{Elem}
 use Rattle.effect_sets.specs.declared.effects.Effect.{Effect}
-use Rattle.twe_machine.specs.declared.state.TaskStatus.{TaskStatus}
-use Rattle.twe_machine.specs.declared.state.TaskStatus.TheVariants as status
-use Rattle.admission_laws.specs.admission_core.States.{IsAmong, Record}
-use Rattle.floor_rule.specs.nodes.Taking.{at_all_nodes, at_nodes, clear_after_taking}
-use Rattle.floor_rule.specs.nodes.TurnSteps.{of_others}
+use Rattle.machine_state.specs.declared.state.TaskStatus.{TaskStatus}
+use Rattle.machine_state.specs.declared.state.TaskStatus.TheVariants as status
+use Rattle.floor_laws.specs.admission.admission_core.States.{IsAmong, Record}
+use Rattle.floor_laws.specs.rule.nodes.Taking.{at_all_nodes, at_nodes, clear_after_taking}
+use Rattle.floor_laws.specs.rule.nodes.TurnSteps.{of_others}
 
 -- the records are of task t
 abbrev pub AreOf : ℕ → List Record → Type 0

@@ -8,16 +8,16 @@ use Rattle.std.proofs.lemmas.Bool.Decides.{not_from_Decides}
 use Rattle.std.proofs.lemmas.List.Elements.{Contains-append_left, Contains-push, Contains-push_cases}
 use Rattle.region_paths.specs.declared.elements.Elem.{Elem}
 use Rattle.effect_sets.specs.declared.effects.Effect.{Effect}
-use Rattle.twe_machine.specs.declared.state.State.{State}
-use Rattle.twe_machine.specs.declared.state.TaskRow.{TaskRow}
-use Rattle.twe_machine.specs.declared.state.TaskStatus.{TaskStatus}
-use Rattle.twe_machine.specs.declared.state.TaskStatus.TheVariants as status
-use Rattle.floor_rule.proofs.Puts.{none_some, some_one}
-use Rattle.admission_laws.specs.admission_core.States.{IsAmong, IsPlaceOf, Record}
-use Rattle.floor_rule.specs.nodes.Fitting.{IsDistinct}
-use Rattle.floor_rule.specs.nodes.Starts.{AreOfEnabled, IsOfEnabled}
-use Rattle.floor_table.specs.nodes.Without.{same_record}
-use Rattle.floor_table.proofs.nodes.Withouts.{record_decided}
+use Rattle.machine_state.specs.declared.state.State.{State}
+use Rattle.machine_state.specs.declared.state.TaskRow.{TaskRow}
+use Rattle.machine_state.specs.declared.state.TaskStatus.{TaskStatus}
+use Rattle.machine_state.specs.declared.state.TaskStatus.TheVariants as status
+use Rattle.floor_laws.proofs.rule.Puts.{none_some, some_one}
+use Rattle.floor_laws.specs.admission.admission_core.States.{IsAmong, IsPlaceOf, Record}
+use Rattle.floor_laws.specs.rule.nodes.Fitting.{IsDistinct}
+use Rattle.floor_laws.specs.rule.nodes.Starts.{AreOfEnabled, IsOfEnabled}
+use Rattle.floor_laws.specs.table.nodes.Without.{same_record}
+use Rattle.floor_laws.proofs.table.nodes.Withouts.{record_decided}
 use Rattle.task_floor.specs.inner.Recording.{AreRecordsOf, IsRecordOf, live_by, live_effects, with_record}
 
 -- Lists.

@@ -2,15 +2,15 @@
 use Rattle.std.proofs.Common.{◌≡◌, ℕ, List, [], ◌∷◌, ◌++◌, Option, Some, sym, ap, subst, ◌∙◌}
 use Rattle.atomic_table.specs.Table.{rest, turned}
 use Rattle.twe_base.specs.Limits.{Bounds}
-use Rattle.floor_rule.specs.declared.view.TaskSlot.{TaskSlot}
-use Rattle.admission_laws.specs.admission_core.States.{Activity, Record}
-use Rattle.floor_table.specs.declared.nodes.slot.Errand.{Errand}
-use Rattle.floor_table.specs.declared.nodes.slot.TreeSlot.{TreeSlot}
-use Rattle.floor_table.specs.declared.nodes.slot.TreeSlot.TheVariants as kinds
-use Rattle.floor_table.specs.declared.nodes.view.TreeView.{TreeView}
-use Rattle.floor_table.specs.nodes.Layout.{content_place}
-use Rattle.floor_table.specs.nodes.Seats.{GaveNode, HasContent, TreeSeat, unlocked_view}
-use Rattle.floor_table.specs.nodes.TreeOf.{content_in}
+use Rattle.floor_laws.specs.declared.rule.view.TaskSlot.{TaskSlot}
+use Rattle.floor_laws.specs.admission.admission_core.States.{Activity, Record}
+use Rattle.floor_laws.specs.declared.table.nodes.slot.Errand.{Errand}
+use Rattle.floor_laws.specs.declared.table.nodes.slot.TreeSlot.{TreeSlot}
+use Rattle.floor_laws.specs.declared.table.nodes.slot.TreeSlot.TheVariants as kinds
+use Rattle.floor_laws.specs.declared.table.nodes.view.TreeView.{TreeView}
+use Rattle.floor_laws.specs.table.nodes.Layout.{content_place}
+use Rattle.floor_laws.specs.table.nodes.Seats.{GaveNode, HasContent, TreeSeat, unlocked_view}
+use Rattle.floor_laws.specs.table.nodes.TreeOf.{content_in}
 use Rattle.task_floor.specs.Contents.{HasBehind, HasGivenContent, HasInHand, HasTakenContent, nothing}
 
 -- What lies in a slot.

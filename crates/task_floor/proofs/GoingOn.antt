@@ -3,30 +3,30 @@ use Rattle.std.proofs.Common.{◌≡◌, ◌≢◌, ◌<◌, ◌⊎◌, ℕ, ℤ
 use Rattle.region_paths.specs.declared.elements.Elem.{Elem}
 use Rattle.effect_sets.specs.declared.effects.Effect.{Effect}
 use Rattle.twe_base.specs.Limits.{Bounds}
-use Rattle.seg_exec.specs.declared.frame.Frame.{Frame}
-use Rattle.twe_machine.specs.declared.state.TaskRow.{TaskRow}
-use Rattle.twe_machine.specs.declared.state.TaskStatus.{TaskStatus}
-use Rattle.twe_machine.specs.declared.state.TaskStatus.TheVariants as status
-use Rattle.twe_machine.specs.Rows.{row_awaited}
-use Rattle.floor_rule.specs.declared.view.HeldTurn.{HeldTurn}
-use Rattle.floor_rule.specs.declared.view.Phase.{Phase}
-use Rattle.floor_rule.specs.declared.view.Phase.TheVariants as phases
-use Rattle.floor_rule.specs.Rows.{phase_of}
-use Rattle.floor_rule.proofs.Puts.{some_one}
-use Rattle.floor_table.specs.FloorOf.{turn_in}
-use Rattle.floor_table.specs.Layout.{word_of_phase}
-use Rattle.floor_table.specs.Tells.{StoredPhase, with_turn}
-use Rattle.floor_table.specs.Added.{HasGrown}
-use Rattle.floor_table.proofs.Added.{grown_then}
-use Rattle.floor_table.proofs.Steps.{phase_again}
+use Rattle.seg_meaning.specs.declared.frame.Frame.{Frame}
+use Rattle.machine_state.specs.declared.state.TaskRow.{TaskRow}
+use Rattle.machine_state.specs.declared.state.TaskStatus.{TaskStatus}
+use Rattle.machine_state.specs.declared.state.TaskStatus.TheVariants as status
+use Rattle.machine_state.specs.Rows.{row_awaited}
+use Rattle.floor_laws.specs.declared.rule.view.HeldTurn.{HeldTurn}
+use Rattle.floor_laws.specs.declared.rule.view.Phase.{Phase}
+use Rattle.floor_laws.specs.declared.rule.view.Phase.TheVariants as phases
+use Rattle.floor_laws.specs.rule.Rows.{phase_of}
+use Rattle.floor_laws.proofs.rule.Puts.{some_one}
+use Rattle.floor_laws.specs.table.FloorOf.{turn_in}
+use Rattle.floor_laws.specs.table.Layout.{word_of_phase}
+use Rattle.floor_laws.specs.table.Tells.{StoredPhase, with_turn}
+use Rattle.floor_laws.specs.table.Added.{HasGrown}
+use Rattle.floor_laws.proofs.table.Added.{grown_then}
+use Rattle.floor_laws.proofs.table.Steps.{phase_again}
 use Rattle.task_floor.specs.steps.Resuming.{HasInHand, KnowsMore, KnowsValue}
 use Rattle.task_floor.proofs.steps.InHand.{found_more, found_phase, in_hand_more, more_moves, moves_more, status_waits, stored_moves}
-use Rattle.admission_laws.specs.admission_core.States.{IsAmong}
-use Rattle.floor_rule.specs.nodes.TurnSteps.{HasPlacedChildren, LeavesNone, of_others}
-use Rattle.floor_table.specs.declared.nodes.view.TreeView.{TreeView}
-use Rattle.floor_table.specs.nodes.FloorSeats.{HasTaskSlots, floor_seat}
-use Rattle.floor_table.specs.nodes.Follows.{FollowedPhase}
-use Rattle.floor_table.specs.nodes.Seats.{TreeSeat, tree_seen, turns_seen}
+use Rattle.floor_laws.specs.admission.admission_core.States.{IsAmong}
+use Rattle.floor_laws.specs.rule.nodes.TurnSteps.{HasPlacedChildren, LeavesNone, of_others}
+use Rattle.floor_laws.specs.declared.table.nodes.view.TreeView.{TreeView}
+use Rattle.floor_laws.specs.table.nodes.FloorSeats.{HasTaskSlots, floor_seat}
+use Rattle.floor_laws.specs.table.nodes.Follows.{FollowedPhase}
+use Rattle.floor_laws.specs.table.nodes.Seats.{TreeSeat, tree_seen, turns_seen}
 use Rattle.task_floor.specs.Resuming.{KnowsEnough, KnowsMoreBeside, MovesOnBeside}
 use Rattle.task_floor.specs.Stands.{StaysInTree}
 use Rattle.task_floor.proofs.LeavingTasks.{children_stored, seat_is, with_phase}

@@ -4,17 +4,17 @@ use Rattle.std.specs.Prelude.{nat_eq, slice_set}
 use Rattle.std.proofs.lemmas.Bool.{cases_eq}
 use Rattle.twe_base.specs.Limits.{Bounds}
 use Rattle.twe_program.specs.Program.{Program, cell_count}
-use Rattle.seg_exec.specs.Access.{Agrees, HasRead, HasWritten, KnowsNow, MaySame, Reads, Writes, after}
-use Rattle.floor_rule.specs.declared.view.OpenSegment.{OpenSegment}
-use Rattle.floor_rule.specs.declared.view.Touch.{Touch}
-use Rattle.floor_rule.specs.declared.view.Touch.TheVariants.{Read, Write}
-use Rattle.floor_rule.specs.Touches.{access_by, accesses_of, cell_at, touches_of}
-use Rattle.floor_rule.proofs.AccessLemmas.{after_length}
-use Rattle.floor_rule.proofs.LastTouches.{last_is, set_here}
-use Rattle.floor_rule.proofs.Puts.{none_some, some_one}
-use Rattle.floor_table.specs.Tells.{IsLastTouch, Seat}
-use Rattle.floor_table.specs.declared.nodes.view.TreeView.{TreeView}
-use Rattle.floor_table.specs.nodes.FloorSeats.{floor_seat, tasks_out}
+use Rattle.seg_meaning.specs.Access.{Agrees, HasRead, HasWritten, KnowsNow, MaySame, Reads, Writes, after}
+use Rattle.floor_laws.specs.declared.rule.view.OpenSegment.{OpenSegment}
+use Rattle.floor_laws.specs.declared.rule.view.Touch.{Touch}
+use Rattle.floor_laws.specs.declared.rule.view.Touch.TheVariants.{Read, Write}
+use Rattle.floor_laws.specs.rule.Touches.{access_by, accesses_of, cell_at, touches_of}
+use Rattle.floor_laws.proofs.rule.AccessLemmas.{after_length}
+use Rattle.floor_laws.proofs.rule.LastTouches.{last_is, set_here}
+use Rattle.floor_laws.proofs.rule.Puts.{none_some, some_one}
+use Rattle.floor_laws.specs.table.Tells.{IsLastTouch, Seat}
+use Rattle.floor_laws.specs.declared.table.nodes.view.TreeView.{TreeView}
+use Rattle.floor_laws.specs.table.nodes.FloorSeats.{floor_seat, tasks_out}
 use Rattle.task_floor.specs.declared.in_hand.CellInHand.{CellInHand}
 use Rattle.task_floor.specs.declared.in_hand.CellInHand.TheVariants.{Nothing, Known, Written}
 use Rattle.task_floor.specs.Segments.{HasTouched, MayReadCell, MayWriteCell, stand_knows}

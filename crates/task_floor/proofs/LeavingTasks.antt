@@ -2,26 +2,26 @@
 use Rattle.std.proofs.Common.{◌≡◌, ◌≢◌, ℕ, List, map, Some, sym, ap, subst, ◌∙◌, ⊎_elim}
 use Rattle.region_paths.specs.declared.elements.Elem.{Elem}
 use Rattle.twe_base.specs.Limits.{Bounds}
-use Rattle.twe_machine.specs.declared.state.TaskRow.{TaskRow}
-use Rattle.twe_machine.specs.declared.state.TaskStatus.{TaskStatus}
-use Rattle.twe_machine.specs.Moves.{status_at_start}
-use Rattle.twe_machine.specs.Rows.{row_awaited}
-use Rattle.floor_rule.specs.declared.view.HeldTurn.{HeldTurn}
-use Rattle.floor_rule.specs.declared.view.Phase.{Phase}
-use Rattle.floor_rule.specs.declared.view.TaskSlot.{TaskSlot}
-use Rattle.floor_rule.specs.Rows.{phase_at, phase_of, slot_of}
-use Rattle.floor_rule.proofs.Puts.{put_here, put_was, some_one}
-use Rattle.floor_table.specs.declared.view.View.{View}
-use Rattle.floor_table.specs.FloorOf.{turn_in}
-use Rattle.floor_table.specs.Tells.{Seat, StoredPhase, with_turn}
+use Rattle.machine_state.specs.declared.state.TaskRow.{TaskRow}
+use Rattle.machine_state.specs.declared.state.TaskStatus.{TaskStatus}
+use Rattle.machine_state.specs.Moves.{status_at_start}
+use Rattle.machine_state.specs.Rows.{row_awaited}
+use Rattle.floor_laws.specs.declared.rule.view.HeldTurn.{HeldTurn}
+use Rattle.floor_laws.specs.declared.rule.view.Phase.{Phase}
+use Rattle.floor_laws.specs.declared.rule.view.TaskSlot.{TaskSlot}
+use Rattle.floor_laws.specs.rule.Rows.{phase_at, phase_of, slot_of}
+use Rattle.floor_laws.proofs.rule.Puts.{put_here, put_was, some_one}
+use Rattle.floor_laws.specs.declared.table.view.View.{View}
+use Rattle.floor_laws.specs.table.FloorOf.{turn_in}
+use Rattle.floor_laws.specs.table.Tells.{Seat, StoredPhase, with_turn}
 use Rattle.task_floor.proofs.steps.LeavingTurns.{may_give_back}
-use Rattle.floor_rule.specs.nodes.TurnSteps.{HasPlacedChildren}
-use Rattle.floor_table.specs.declared.nodes.slot.TreeSlot.{TreeSlot}
-use Rattle.floor_table.specs.declared.nodes.view.TreeView.{TreeView}
-use Rattle.floor_table.specs.nodes.FloorSeats.{HasTaskSlots, as_slot, floor_seat, tasks_out}
-use Rattle.floor_table.specs.nodes.Seats.{TreeSeat, turns_seen}
-use Rattle.floor_table.specs.nodes.TurnSeats.{GaveTreeTurn, MayLeaveTask, given_tree_view, gives_first, gives_taken}
-use Rattle.floor_table.proofs.nodes.Lifts.{out_again}
+use Rattle.floor_laws.specs.rule.nodes.TurnSteps.{HasPlacedChildren}
+use Rattle.floor_laws.specs.declared.table.nodes.slot.TreeSlot.{TreeSlot}
+use Rattle.floor_laws.specs.declared.table.nodes.view.TreeView.{TreeView}
+use Rattle.floor_laws.specs.table.nodes.FloorSeats.{HasTaskSlots, as_slot, floor_seat, tasks_out}
+use Rattle.floor_laws.specs.table.nodes.Seats.{TreeSeat, turns_seen}
+use Rattle.floor_laws.specs.table.nodes.TurnSeats.{GaveTreeTurn, MayLeaveTask, given_tree_view, gives_first, gives_taken}
+use Rattle.floor_laws.proofs.table.nodes.Lifts.{out_again}
 use Rattle.task_floor.specs.Leaving.{HasLeftTask, MayGoFrom}
 use Rattle.task_floor.specs.Stands.{StaysInTree}
 use Rattle.task_floor.specs.Turns.{MayGiveTask}

@@ -1,21 +1,21 @@
 -- What a stand knows after it has looked at the phase of a task.
 use Rattle.std.proofs.Common.{◌≡◌, ◌≢◌, ◌⊎◌, ◌==◌, ℕ, Option, Bool, true, false, List, [], ◌∷◌, if◌then◌else◌, refl, sym, ap, subst, ◌∙◌, inl, inr}
 use Rattle.twe_base.specs.Limits.{Bounds}
-use Rattle.floor_rule.specs.declared.view.Phase.{Phase}
-use Rattle.floor_rule.specs.declared.view.Phase.TheVariants as phases
-use Rattle.floor_table.specs.Layout.{phase_of_word}
-use Rattle.floor_table.specs.Tells.{FoundDone, FoundPhase}
+use Rattle.floor_laws.specs.declared.rule.view.Phase.{Phase}
+use Rattle.floor_laws.specs.declared.rule.view.Phase.TheVariants as phases
+use Rattle.floor_laws.specs.table.Layout.{phase_of_word}
+use Rattle.floor_laws.specs.table.Tells.{FoundDone, FoundPhase}
 use Rattle.task_floor.proofs.steps.InHand.{found_more, more_same}
-use Rattle.admission_laws.specs.admission_core.States.{IsAmong, Record}
-use Rattle.floor_rule.specs.nodes.Trees.{WaitFact}
-use Rattle.floor_table.specs.Added.{HasGrown}
-use Rattle.floor_table.proofs.Added.{grown_by, grown_same}
-use Rattle.floor_table.specs.declared.nodes.view.Look.TheVariants.{AtPhase, AtTurn}
-use Rattle.floor_table.specs.declared.nodes.view.TreeView.{TreeView}
-use Rattle.floor_table.specs.nodes.Looks.{looked_seat}
-use Rattle.floor_table.specs.nodes.Follows.{FollowedPhase, Learns, led_on}
-use Rattle.floor_table.specs.nodes.FloorSeats.{floor_seat}
-use Rattle.floor_table.specs.nodes.Seats.{TreeSeat}
+use Rattle.floor_laws.specs.admission.admission_core.States.{IsAmong, Record}
+use Rattle.floor_laws.specs.rule.nodes.Trees.{WaitFact}
+use Rattle.floor_laws.specs.table.Added.{HasGrown}
+use Rattle.floor_laws.proofs.table.Added.{grown_by, grown_same}
+use Rattle.floor_laws.specs.declared.table.nodes.view.Look.TheVariants.{AtPhase, AtTurn}
+use Rattle.floor_laws.specs.declared.table.nodes.view.TreeView.{TreeView}
+use Rattle.floor_laws.specs.table.nodes.Looks.{looked_seat}
+use Rattle.floor_laws.specs.table.nodes.Follows.{FollowedPhase, Learns, led_on}
+use Rattle.floor_laws.specs.table.nodes.FloorSeats.{floor_seat}
+use Rattle.floor_laws.specs.table.nodes.Seats.{TreeSeat}
 use Rattle.task_floor.specs.Resuming.{KnowsMoreBeside}
 use Rattle.task_floor.specs.Turns.{FoundBusy}
 

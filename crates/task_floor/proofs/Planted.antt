@@ -8,22 +8,22 @@ use Rattle.atomic_table.proofs.Lists.{at_map}
 use Rattle.region_paths.specs.declared.elements.Elem.{Elem}
 use Rattle.twe_base.specs.Limits.{Bounds}
 use Rattle.twe_program.specs.Program.{Program}
-use Rattle.seg_exec.specs.Entry.{effects_at, entry_frame}
-use Rattle.twe_machine.specs.declared.state.State.{State}
-use Rattle.twe_machine.specs.declared.state.TaskRow.{TaskRow}
-use Rattle.twe_machine.specs.declared.state.TaskStatus.TheVariants as status
-use Rattle.twe_machine.specs.Moves.{new_row, start_of}
+use Rattle.seg_meaning.specs.Entry.{effects_at, entry_frame}
+use Rattle.machine_state.specs.declared.state.State.{State}
+use Rattle.machine_state.specs.declared.state.TaskRow.{TaskRow}
+use Rattle.machine_state.specs.declared.state.TaskStatus.TheVariants as status
+use Rattle.machine_state.specs.Moves.{new_row, start_of}
 use Rattle.seg_journal.specs.declared.numbered.NumberedEntry.{NumberedEntry}
-use Rattle.floor_rule.specs.declared.view.TaskSlot.{TaskSlot}
-use Rattle.floor_rule.proofs.Puts.{none_some, some_one}
-use Rattle.floor_table.specs.Holds.{IsLaidOut}
-use Rattle.floor_table.specs.Layout.{word_count}
-use Rattle.admission_laws.specs.admission_core.States.{IsAmong, Record}
-use Rattle.floor_rule.specs.nodes.Starts.{AreOfEnabled}
-use Rattle.floor_table.specs.declared.nodes.slot.TreeSlot.{TreeSlot}
-use Rattle.floor_table.specs.declared.nodes.slot.TreeSlot.TheVariants as kinds
-use Rattle.floor_table.specs.nodes.Holds.{HoldsContent, IsTreeLaidOut}
-use Rattle.floor_table.specs.nodes.Layout.{content_place, decider_place, free_lock, lock_place, no_decider, tree_slot_count, tree_word_count}
+use Rattle.floor_laws.specs.declared.rule.view.TaskSlot.{TaskSlot}
+use Rattle.floor_laws.proofs.rule.Puts.{none_some, some_one}
+use Rattle.floor_laws.specs.table.Holds.{IsLaidOut}
+use Rattle.floor_laws.specs.table.Layout.{word_count}
+use Rattle.floor_laws.specs.admission.admission_core.States.{IsAmong, Record}
+use Rattle.floor_laws.specs.rule.nodes.Starts.{AreOfEnabled}
+use Rattle.floor_laws.specs.declared.table.nodes.slot.TreeSlot.{TreeSlot}
+use Rattle.floor_laws.specs.declared.table.nodes.slot.TreeSlot.TheVariants as kinds
+use Rattle.floor_laws.specs.table.nodes.Holds.{HoldsContent, IsTreeLaidOut}
+use Rattle.floor_laws.specs.table.nodes.Layout.{content_place, decider_place, free_lock, lock_place, no_decider, tree_slot_count, tree_word_count}
 use Rattle.task_floor.specs.steps.Opening.{ShowsRun}
 use Rattle.task_floor.proofs.steps.Laid.{get_past}
 use Rattle.task_floor.specs.Opening.{ShowsTreeRun}

@@ -6,38 +6,38 @@ use Rattle.region_paths.specs.declared.elements.Elem.{Elem}
 use Rattle.effect_sets.specs.declared.effects.Effect.{Effect}
 use Rattle.twe_base.specs.Limits.{Bounds}
 use Rattle.twe_program.specs.Program.{Program}
-use Rattle.seg_exec.specs.declared.frame.Frame.{Frame}
-use Rattle.seg_exec.specs.declared.stop.Stop.{Stop}
-use Rattle.seg_exec.specs.Segment.{HasRoomToSpawn}
-use Rattle.twe_machine.specs.declared.state.TaskStatus.{TaskStatus}
-use Rattle.twe_machine.specs.declared.state.TaskStatus.TheVariants as status
-use Rattle.twe_machine.specs.Moves.{admitted_row, status_at_start}
+use Rattle.seg_meaning.specs.declared.frame.Frame.{Frame}
+use Rattle.seg_meaning.specs.declared.stop.Stop.{Stop}
+use Rattle.seg_meaning.specs.Segment.{HasRoomToSpawn}
+use Rattle.machine_state.specs.declared.state.TaskStatus.{TaskStatus}
+use Rattle.machine_state.specs.declared.state.TaskStatus.TheVariants as status
+use Rattle.machine_state.specs.Moves.{admitted_row, status_at_start}
 use Rattle.seg_journal.specs.declared.numbered.NumberedEntry.{NumberedEntry}
-use Rattle.floor_rule.specs.declared.view.HeldTurn.{HeldTurn}
-use Rattle.floor_rule.specs.declared.view.Phase.{Phase}
-use Rattle.floor_rule.specs.declared.view.Phase.TheVariants as phases
-use Rattle.floor_rule.specs.declared.view.TaskSlot.{TaskSlot}
-use Rattle.floor_rule.specs.Rows.{phase_of, slot_of}
-use Rattle.floor_rule.proofs.Puts.{none_some, put_all, put_else, put_here, some_one}
-use Rattle.floor_table.specs.declared.view.SeatKind.TheVariants.{Spent}
-use Rattle.floor_table.specs.declared.view.View.{View}
-use Rattle.floor_table.specs.FloorOf.{turn_in}
-use Rattle.floor_table.specs.Tells.{Seat, with_turn}
+use Rattle.floor_laws.specs.declared.rule.view.HeldTurn.{HeldTurn}
+use Rattle.floor_laws.specs.declared.rule.view.Phase.{Phase}
+use Rattle.floor_laws.specs.declared.rule.view.Phase.TheVariants as phases
+use Rattle.floor_laws.specs.declared.rule.view.TaskSlot.{TaskSlot}
+use Rattle.floor_laws.specs.rule.Rows.{phase_of, slot_of}
+use Rattle.floor_laws.proofs.rule.Puts.{none_some, put_all, put_else, put_here, some_one}
+use Rattle.floor_laws.specs.declared.table.view.SeatKind.TheVariants.{Spent}
+use Rattle.floor_laws.specs.declared.table.view.View.{View}
+use Rattle.floor_laws.specs.table.FloorOf.{turn_in}
+use Rattle.floor_laws.specs.table.Tells.{Seat, with_turn}
 use Rattle.task_floor.specs.steps.Committing.{Log}
 use Rattle.task_floor.specs.steps.Resuming.{HasInHand}
 use Rattle.task_floor.specs.steps.Segments.{HasRunSegment, MayRunSegment}
-use Rattle.admission_laws.specs.admission_core.States.{IsAmong, IsPlaceOf, Record}
-use Rattle.floor_rule.specs.nodes.Taking.{clear_after_taking}
-use Rattle.floor_rule.specs.nodes.TurnSteps.{HasPlacedChildren, IsClearOf, LeavesNone, of_others}
-use Rattle.floor_rule.proofs.nodes.TaskChanges.{among_others}
-use Rattle.floor_table.specs.declared.nodes.slot.TreeSlot.{TreeSlot}
-use Rattle.floor_table.specs.declared.nodes.slot.TreeSlot.TheVariants as kinds
-use Rattle.floor_table.specs.declared.nodes.view.TreeView.{TreeView}
-use Rattle.floor_table.specs.nodes.FloorSeats.{HasTaskSlots, floor_seat, tasks_out}
-use Rattle.floor_table.specs.nodes.Seats.{TreeSeat, tree_seen, turns_seen}
-use Rattle.floor_table.specs.nodes.TreeOf.{content_in}
-use Rattle.floor_table.specs.nodes.TurnSeats.{GaveTreeTurn, given_tree_view, gives_first, gives_taken}
-use Rattle.floor_table.specs.nodes.EntrySeats.{admission_at}
+use Rattle.floor_laws.specs.admission.admission_core.States.{IsAmong, IsPlaceOf, Record}
+use Rattle.floor_laws.specs.rule.nodes.Taking.{clear_after_taking}
+use Rattle.floor_laws.specs.rule.nodes.TurnSteps.{HasPlacedChildren, IsClearOf, LeavesNone, of_others}
+use Rattle.floor_laws.proofs.rule.nodes.TaskChanges.{among_others}
+use Rattle.floor_laws.specs.declared.table.nodes.slot.TreeSlot.{TreeSlot}
+use Rattle.floor_laws.specs.declared.table.nodes.slot.TreeSlot.TheVariants as kinds
+use Rattle.floor_laws.specs.declared.table.nodes.view.TreeView.{TreeView}
+use Rattle.floor_laws.specs.table.nodes.FloorSeats.{HasTaskSlots, floor_seat, tasks_out}
+use Rattle.floor_laws.specs.table.nodes.Seats.{TreeSeat, tree_seen, turns_seen}
+use Rattle.floor_laws.specs.table.nodes.TreeOf.{content_in}
+use Rattle.floor_laws.specs.table.nodes.TurnSeats.{GaveTreeTurn, given_tree_view, gives_first, gives_taken}
+use Rattle.floor_laws.specs.table.nodes.EntrySeats.{admission_at}
 use Rattle.task_floor.specs.Committing.{HasAdmitted, MayCommitBeside}
 use Rattle.task_floor.specs.Holding.{HoldsChildBeside, HoldsDrawnBeside, HoldsOneBeside, HoldsReadyBeside, HoldsTaskBeside, IsIdleBeside, IsOutsideWith}
 use Rattle.task_floor.specs.Leaving.{HasLeftTask, MayFinishTask, MayGiveNew, MayGoFrom, MayParkTask, stored_view}

@@ -6,10 +6,10 @@ use Rattle.std.proofs.lemmas.List.{length-replicate}
 use mathlib.Core.Option as core
 use mathlib.Core.Option.{some-injective, some-ne-none}
 use lib.ListN.{get_elem?}
-use Rattle.floor_rule.proofs.Puts.{some_one}
-use Rattle.floor_table.proofs.Elements.{at_else, at_within}
-use Rattle.admission_laws.specs.admission_core.States.{IsAmong, Record}
-use Rattle.floor_rule.specs.nodes.Fitting.{AreRecordsAt, IsDistinct}
+use Rattle.floor_laws.proofs.rule.Puts.{some_one}
+use Rattle.floor_laws.proofs.table.Elements.{at_else, at_within}
+use Rattle.floor_laws.specs.admission.admission_core.States.{IsAmong, Record}
+use Rattle.floor_laws.specs.rule.nodes.Fitting.{AreRecordsAt, IsDistinct}
 use Rattle.task_floor.specs.inner.Recording.{HoldRecords, HoldsThose, with_added}
 use Rattle.task_floor.proofs.Gathered.{among_either, among_left, among_right}
 

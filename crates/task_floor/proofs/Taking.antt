@@ -2,21 +2,21 @@
 use Rattle.std.proofs.Common.{◌≡◌, ◌≢◌, ℕ, List, [], ◌∷◌, Option, None, Some, sym, ap, subst, ◌∙◌, ⊎_elim}
 use Rattle.atomic_table.specs.Table.{rest}
 use Rattle.region_paths.specs.declared.elements.Elem.{Elem}
-use Rattle.floor_rule.specs.declared.view.HeldTurn.{HeldTurn}
-use Rattle.floor_rule.specs.declared.view.TaskSlot.{TaskSlot}
-use Rattle.floor_rule.specs.Rows.{slot_of}
-use Rattle.floor_table.specs.declared.view.View.{View}
-use Rattle.floor_table.specs.Layout.{free_word}
+use Rattle.floor_laws.specs.declared.rule.view.HeldTurn.{HeldTurn}
+use Rattle.floor_laws.specs.declared.rule.view.TaskSlot.{TaskSlot}
+use Rattle.floor_laws.specs.rule.Rows.{slot_of}
+use Rattle.floor_laws.specs.declared.table.view.View.{View}
+use Rattle.floor_laws.specs.table.Layout.{free_word}
 use Rattle.task_floor.proofs.steps.LeavingTurns.{may_give}
-use Rattle.floor_rule.specs.nodes.Taking.{clear_after_taking}
-use Rattle.floor_table.specs.declared.nodes.slot.TreeSlot.{TreeSlot}
-use Rattle.floor_table.specs.declared.nodes.slot.TreeSlot.TheVariants as kinds
-use Rattle.floor_table.specs.declared.nodes.view.TreeView.{TreeView}
-use Rattle.floor_table.specs.nodes.FloorSeats.{HasTaskSlots, floor_seat, tasks_out}
-use Rattle.floor_table.specs.declared.nodes.view.Look.TheVariants.{AtTurn}
-use Rattle.floor_table.specs.nodes.Looks.{looked_seat}
-use Rattle.floor_table.specs.nodes.Seats.{TreeSeat}
-use Rattle.floor_table.specs.nodes.TurnSeats.{MayGiveTreeTurn, MayLeaveTask, TookTreeTurn, TriedTreeTurn}
+use Rattle.floor_laws.specs.rule.nodes.Taking.{clear_after_taking}
+use Rattle.floor_laws.specs.declared.table.nodes.slot.TreeSlot.{TreeSlot}
+use Rattle.floor_laws.specs.declared.table.nodes.slot.TreeSlot.TheVariants as kinds
+use Rattle.floor_laws.specs.declared.table.nodes.view.TreeView.{TreeView}
+use Rattle.floor_laws.specs.table.nodes.FloorSeats.{HasTaskSlots, floor_seat, tasks_out}
+use Rattle.floor_laws.specs.declared.table.nodes.view.Look.TheVariants.{AtTurn}
+use Rattle.floor_laws.specs.table.nodes.Looks.{looked_seat}
+use Rattle.floor_laws.specs.table.nodes.Seats.{TreeSeat}
+use Rattle.floor_laws.specs.table.nodes.TurnSeats.{MayGiveTreeTurn, MayLeaveTask, TookTreeTurn, TriedTreeTurn}
 use Rattle.task_floor.specs.Turns.{HasTakenTask, MayGiveTask}
 
 pub took_of : (nodes : List (List Elem)) (me after : TreeSeat) (t found : ℕ) → found ≡ free_word → TriedTreeTurn nodes me t found after → TookTreeTurn nodes me t after

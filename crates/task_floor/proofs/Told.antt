@@ -1,14 +1,14 @@
 -- What a step of the floor told a stand holds of the floor's seat of that stand, and in the tree the stand stays as it was.
 use Rattle.std.proofs.Common.{◌≡◌, ℕ, List, [], ◌∷◌, map, Option, refl, sym, ap, subst, ◌∙◌}
 use Rattle.twe_base.specs.Limits.{Bounds}
-use Rattle.floor_rule.specs.declared.view.TaskSlot.{TaskSlot}
-use Rattle.floor_table.specs.declared.view.View.{View}
-use Rattle.floor_table.specs.Tells.{Seat}
-use Rattle.floor_table.specs.declared.nodes.slot.TreeSlot.{TreeSlot}
-use Rattle.floor_table.specs.declared.nodes.view.TreeView.{TreeView}
-use Rattle.floor_table.specs.nodes.FloorSeats.{HasTaskSlots, TellsFloor, as_slot, floor_seat, tasks_out}
-use Rattle.floor_table.specs.nodes.Seats.{TreeSeat}
-use Rattle.floor_table.proofs.nodes.Lifts.{AreBelow, out_below}
+use Rattle.floor_laws.specs.declared.rule.view.TaskSlot.{TaskSlot}
+use Rattle.floor_laws.specs.declared.table.view.View.{View}
+use Rattle.floor_laws.specs.table.Tells.{Seat}
+use Rattle.floor_laws.specs.declared.table.nodes.slot.TreeSlot.{TreeSlot}
+use Rattle.floor_laws.specs.declared.table.nodes.view.TreeView.{TreeView}
+use Rattle.floor_laws.specs.table.nodes.FloorSeats.{HasTaskSlots, TellsFloor, as_slot, floor_seat, tasks_out}
+use Rattle.floor_laws.specs.table.nodes.Seats.{TreeSeat}
+use Rattle.floor_laws.proofs.table.nodes.Lifts.{AreBelow, out_below}
 use Rattle.task_floor.specs.Stands.{StaysInTree}
 
 -- Slots of tasks.

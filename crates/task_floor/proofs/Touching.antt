@@ -2,14 +2,14 @@
 use Rattle.std.proofs.Common.{◌≡◌, ◌≢◌, ℕ, ℤ, sym, ◌∙◌}
 use Rattle.twe_base.specs.Limits.{Bounds}
 use Rattle.twe_program.specs.Program.{Program}
-use Rattle.seg_exec.specs.Access.{Access, KnowsNow, MaySame}
-use Rattle.floor_rule.specs.declared.view.Touch.{Touch}
-use Rattle.floor_rule.specs.declared.view.Touch.TheVariants.{Read, Write}
-use Rattle.floor_table.specs.declared.view.SeatKind.TheVariants.{Spent}
-use Rattle.floor_table.specs.Tells.{IsLatest, WroteCell}
+use Rattle.seg_meaning.specs.Access.{Access, KnowsNow, MaySame}
+use Rattle.floor_laws.specs.declared.rule.view.Touch.{Touch}
+use Rattle.floor_laws.specs.declared.rule.view.Touch.TheVariants.{Read, Write}
+use Rattle.floor_laws.specs.declared.table.view.SeatKind.TheVariants.{Spent}
+use Rattle.floor_laws.specs.table.Tells.{IsLatest, WroteCell}
 use Rattle.task_floor.specs.steps.Stands.{HasLoaded, MayAccess}
 use Rattle.task_floor.proofs.steps.Touching as floor
-use Rattle.floor_table.specs.nodes.FloorSeats.{floor_seat}
+use Rattle.floor_laws.specs.table.nodes.FloorSeats.{floor_seat}
 use Rattle.task_floor.specs.Segments.{HasTouched, MayReadCell, MayWriteCell, stand_knows}
 use Rattle.task_floor.specs.Stands.{StaysInTree, TreeStand, floor_stand}
 

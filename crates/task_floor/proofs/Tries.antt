@@ -3,9 +3,9 @@ use Rattle.std.proofs.Common.{◌≡◌, ◌≢◌, ℕ, true, false, sym, ◌�
 use Rattle.std.specs.Prelude.{◌==◌}
 use Rattle.std.proofs.lemmas.Bool.{false≢true}
 use Rattle.twe_base.specs.Limits.{Bounds}
-use Rattle.admission_laws.specs.admission_core.States.{Activity}
-use Rattle.floor_table.specs.nodes.Layout.{bare_lock}
-use Rattle.floor_table.specs.nodes.Seats.{PassedNode, TookNode, TreeSeat, TriedNode, passed_view}
+use Rattle.floor_laws.specs.admission.admission_core.States.{Activity}
+use Rattle.floor_laws.specs.table.nodes.Layout.{bare_lock}
+use Rattle.floor_laws.specs.table.nodes.Seats.{PassedNode, TookNode, TreeSeat, TriedNode, passed_view}
 
 pub took_is : (lim : Bounds) (before : TreeSeat) (n : ℕ) (next : Activity) (free found : ℕ) (after : TreeSeat) → (found == free) ≡ true
     → TriedNode lim before n next free found after → TookNode lim before n next after

@@ -1,33 +1,35 @@
 -- The turn of a task is taken, its phase loaded, and the turn given again: to read the task's value.
-use Rattle.std.proofs.Common.{◌≡◌, ◌≢◌, ◌<◌, ℕ, ℤ, List, ◌∷◌, Option, None, Some, true, false, sym, ap, subst, ◌∙◌, inl, inr, ⊎_elim}
+use Rattle.std.proofs.Common.{◌≡◌, ◌≢◌, ◌<◌, ◌++◌, ℕ, ℤ, List, [], ◌∷◌, Option, None, Some, true, false, sym, ap, subst, ◌∙◌, inl, inr, ⊎_elim, append_assoc}
+use Rattle.std.proofs.lemmas.List.Elements.{All-append, All-nil}
 use Rattle.std.specs.Prelude.{IfNone}
 use Rattle.region_paths.specs.declared.elements.Elem.{Elem}
 use Rattle.twe_base.specs.Limits.{Bounds}
-use Rattle.floor_rule.specs.declared.view.HeldTurn.{HeldTurn}
-use Rattle.floor_rule.specs.declared.view.Phase.TheVariants as phases
-use Rattle.floor_rule.specs.declared.view.TaskSlot.{TaskSlot}
-use Rattle.floor_rule.proofs.Puts.{put_here, put_was, some_one}
-use Rattle.floor_table.specs.declared.view.SeatKind.TheVariants.{Spent}
-use Rattle.floor_table.specs.FloorOf.{turn_in}
-use Rattle.floor_table.specs.Layout.{phase_of_word}
-use Rattle.floor_table.specs.Tells.{FoundPhase, GaveTurn, Seat}
-use Rattle.floor_table.specs.Added.{HasGrown}
-use Rattle.floor_table.proofs.Added.{added_at, added_before, added_then, grown_by, grown_then}
-use Rattle.floor_table.specs.declared.nodes.view.Look.{Look}
-use Rattle.floor_table.specs.declared.nodes.view.Look.TheVariants.{AtPhase, AtTurn}
+use Rattle.floor_laws.specs.declared.rule.view.HeldTurn.{HeldTurn}
+use Rattle.floor_laws.specs.declared.rule.view.Phase.TheVariants as phases
+use Rattle.floor_laws.specs.declared.rule.view.TaskSlot.{TaskSlot}
+use Rattle.floor_laws.proofs.rule.Puts.{put_here, put_was, some_one}
+use Rattle.floor_laws.specs.declared.table.view.SeatKind.TheVariants.{Spent}
+use Rattle.floor_laws.specs.declared.table.view.TurnChange.{TurnChange}
+use Rattle.floor_laws.specs.table.FloorOf.{turn_in}
+use Rattle.floor_laws.specs.table.Layout.{phase_of_word}
+use Rattle.floor_laws.specs.table.Tells.{FoundDone, FoundPhase, GaveTurn, Seat}
+use Rattle.floor_laws.specs.table.Added.{HasGrown}
+use Rattle.floor_laws.proofs.table.Added.{added_at, added_before, added_then, grown_by, grown_then}
+use Rattle.floor_laws.specs.declared.table.nodes.view.Look.{Look}
+use Rattle.floor_laws.specs.declared.table.nodes.view.Look.TheVariants.{AtPhase, AtTurn}
 use Rattle.task_floor.specs.declared.steps.readiness.Readiness.TheVariants as readiness
 use Rattle.task_floor.specs.steps.Resuming.{KnowsMore, KnowsValue}
 use Rattle.task_floor.proofs.steps.InHand.{found_more, gave_more, gave_value, had_turn, may_give_back, more_then}
-use Rattle.admission_laws.specs.admission_core.States.{IsAmong, Record}
-use Rattle.floor_rule.specs.nodes.Taking.{clear_after_taking}
-use Rattle.floor_rule.specs.nodes.TurnSteps.{HasPlacedChildren, of_others}
-use Rattle.floor_rule.proofs.nodes.Takings.{given_as_taken}
-use Rattle.floor_table.specs.declared.nodes.view.TreeView.{TreeView}
-use Rattle.floor_table.specs.nodes.FloorSeats.{HasTaskSlots, floor_seat, tasks_out}
-use Rattle.floor_table.specs.nodes.Follows.{FollowedPhase}
-use Rattle.floor_table.specs.nodes.Seats.{TreeSeat, tree_seen, turns_seen}
-use Rattle.floor_table.specs.nodes.TurnSeats.{GaveTreeTurn, MayLeaveTask, given_tree_view, gives_taken}
-use Rattle.task_floor.specs.Resuming.{KnowsEnough, KnowsMoreBeside, WasNotDone}
+use Rattle.floor_laws.specs.admission.admission_core.States.{IsAmong, Record}
+use Rattle.floor_laws.specs.rule.nodes.Taking.{clear_after_taking}
+use Rattle.floor_laws.specs.rule.nodes.TurnSteps.{HasPlacedChildren, of_others}
+use Rattle.floor_laws.proofs.rule.nodes.Takings.{given_as_taken}
+use Rattle.floor_laws.specs.declared.table.nodes.view.TreeView.{TreeView}
+use Rattle.floor_laws.specs.table.nodes.FloorSeats.{HasTaskSlots, floor_seat, tasks_out}
+use Rattle.floor_laws.specs.table.nodes.Follows.{FollowedPhase}
+use Rattle.floor_laws.specs.table.nodes.Seats.{TreeSeat, tree_seen, turns_seen}
+use Rattle.floor_laws.specs.table.nodes.TurnSeats.{GaveTreeTurn, MayLeaveTask, given_tree_view, gives_taken}
+use Rattle.task_floor.specs.Resuming.{HasLeftTurn, KnowsEnough, KnowsMoreBeside, LeftTurnUnlessUndone, WasNotDone}
 use Rattle.task_floor.specs.Turns.{FoundBusy, HasTakenTask, MayGiveTask}
 use Rattle.task_floor.proofs.Forgetting.{none_forgotten, taken_forgotten}
 use Rattle.task_floor.proofs.Looking.{HasLooked, clear_same, found_floor, has_looked, latest_look}
@@ -116,6 +118,9 @@ module _ (nodes : List (List Elem)) (a b : TreeSeat) (t : ℕ) (slot : TaskSlot)
 
       pub value_not_had : phase_of_word found ≢ phases.Done → WasNotDone a.0.looks d.0.looks t
       value_not_had other = (found, inl (added_at (AtPhase t found) a.0.looks d.0.looks looks_now, other))
+
+      pub turn_for_nothing : phase_of_word found ≢ phases.Done → LeftTurnUnlessUndone a.0 d.0 t
+      turn_for_nothing other = inr (found, added_at (AtPhase t found) a.0.looks d.0.looks looks_now, other)
 
       pub gave_more_beside : KnowsMoreBeside a d t
       gave_more_beside = record {
@@ -224,3 +229,47 @@ waits_for a b t u is had = subst (WasNotDone a b) (one_wait t u is) had
 pub not_had_then : (a b c : List Look) (t : ℕ) → WasNotDone a b t → HasGrown b c → WasNotDone a c t
 not_had_then a b c t (found, inl (look, other)) grown = (found, inl (added_then (AtPhase t found) a b c look grown, other))
 not_had_then a b c t (found, inr (look, other)) grown = (found, inr (added_then (AtTurn t found) a b c look grown, other))
+
+-- Why the turn was not taken for nothing.
+
+turn_left : (a b : List TurnChange) (t : ℕ) → b ≡ a → HasLeftTurn a b t
+turn_left a b t same = record { added = []; is = same; others = All-nil (λ (change : TurnChange). change.task ≢ t) }
+
+turn_left_then : (a b c : List TurnChange) (t : ℕ) → HasLeftTurn a b t → HasLeftTurn b c t → HasLeftTurn a c t
+turn_left_then a b c t first second = record {
+  added = second.added ++ first.added;
+  is = second.is ∙ (ap (λ (l : List TurnChange). second.added ++ l) first.is ∙ sym (append_assoc second.added first.added a));
+  others = All-append (λ (change : TurnChange). change.task ≢ t) second.added first.added second.others first.others;
+}
+
+-- a look at a phase takes no turn
+look_turns : (lim : Bounds) (a b : TreeSeat) (t found : ℕ) → FollowedPhase lim a t found b → b.0.floor.turns ≡ a.0.floor.turns
+look_turns lim a b t found looks =
+    ⊎_elim
+    (λ (done : (phase_of_word found ≡ phases.Done) × FoundDone (floor_seat a) (floor_seat b) t). ap (λ (m : Seat). m.0.turns) done.1.seat)
+    (λ (other : (phase_of_word found ≢ phases.Done) × (floor_seat b ≡ floor_seat a)). ap (λ (m : Seat). m.0.turns) other.1)
+    (found_floor lim a b t found looks).3
+
+pub busy_left : (a b : TreeSeat) (t : ℕ) (holder : Option ℕ) → FoundBusy a b t holder → LeftTurnUnlessUndone a.0 b.0 t
+busy_left a b t holder busy = inl (turn_left a.0.floor.turns b.0.floor.turns t (ap (λ (m : TreeSeat). m.0.floor.turns) busy.seat))
+
+pub look_left : (lim : Bounds) (a b : TreeSeat) (t found : ℕ) → FollowedPhase lim a t found b → LeftTurnUnlessUndone a.0 b.0 t
+look_left lim a b t found looks = inl (turn_left a.0.floor.turns b.0.floor.turns t (look_turns lim a b t found looks))
+
+-- the same if a phase was looked at before
+pub left_looked : (lim : Bounds) (a b : TreeSeat) (c : TreeView) (t u found : ℕ) → FollowedPhase lim a u found b → LeftTurnUnlessUndone b.0 c t → LeftTurnUnlessUndone a.0 c t
+left_looked lim a b c t u found looks (inl left) =
+    inl (turn_left_then a.0.floor.turns b.0.floor.turns c.floor.turns t (turn_left a.0.floor.turns b.0.floor.turns t (look_turns lim a b u found looks)) left)
+left_looked lim a b c t u found looks (inr (word, look, other)) =
+    inr (word, added_before (AtPhase t word) a.0.looks b.0.looks c.looks (has_looked lim a b u found looks).looks look, other)
+
+pub none_left_looked : (lim : Bounds) (a b : TreeSeat) (c : TreeView) (t u found : ℕ) (value : Option ℤ) → FollowedPhase lim a u found b → IfNone value (LeftTurnUnlessUndone b.0 c t)
+    → IfNone value (LeftTurnUnlessUndone a.0 c t)
+none_left_looked lim a b c t u found None looks left = left_looked lim a b c t u found looks left
+none_left_looked lim a b c t u found (Some value) looks left = tt
+
+pub left_for : (a b : TreeView) (t u : ℕ) → readiness.Waits t ≡ readiness.Waits u → LeftTurnUnlessUndone a b t → LeftTurnUnlessUndone a b u
+left_for a b t u is left = subst (LeftTurnUnlessUndone a b) (one_awaited t u is) left
+  where
+    one_awaited : (t u : ℕ) → readiness.Waits t ≡ readiness.Waits u → t ≡ u
+    one_awaited t u h = cc

@@ -2,13 +2,13 @@
 use Rattle.std.specs.Prelude.{◌≡◌, ℕ, None}
 use Rattle.twe_base.specs.Limits.{Bounds}
 use Rattle.twe_program.specs.Program.{Program}
-use Rattle.twe_machine.specs.declared.state.State.{State}
-use Rattle.twe_machine.specs.declared.state.TaskStatus.TheVariants.{Done}
-use Rattle.twe_machine.specs.Rows.{HasStatus}
-use Rattle.floor_rule.specs.Fitting.{IsMade}
-use Rattle.floor_table.specs.Alone.{IsAloneAt}
-use Rattle.floor_table.specs.FloorOf.{turn_in}
-use Rattle.floor_table.specs.declared.view.View.{View}
+use Rattle.machine_state.specs.declared.state.State.{State}
+use Rattle.machine_state.specs.declared.state.TaskStatus.TheVariants.{Done}
+use Rattle.machine_state.specs.Rows.{HasStatus}
+use Rattle.floor_laws.specs.rule.Fitting.{IsMade}
+use Rattle.floor_laws.specs.table.Alone.{IsAloneAt}
+use Rattle.floor_laws.specs.table.FloorOf.{turn_in}
+use Rattle.floor_laws.specs.declared.table.view.View.{View}
 
 -- If the seat is the only one and does not have the turn of task t, the task was not made.
 abbrev pub IsNewIfAlone : Program → Bounds → View → ℕ → Type 0

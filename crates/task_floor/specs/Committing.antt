@@ -4,24 +4,24 @@ use Rattle.std.specs.Option.{ForSome}
 use Rattle.twe_base.specs.Limits.{Bounds}
 use Rattle.twe_program.specs.Program.{Program}
 use Rattle.seg_journal.specs.declared.journal.End.{End}
-use Rattle.seg_exec.specs.declared.frame.Frame.{Frame}
-use Rattle.seg_exec.specs.declared.stop.Stop.{Stop}
-use Rattle.twe_machine.specs.declared.state.TaskRow.{TaskRow}
-use Rattle.floor_rule.specs.declared.view.HeldTurn.{HeldTurn}
-use Rattle.floor_rule.specs.declared.view.TaskSlot.{TaskSlot}
-use Rattle.floor_rule.specs.Rows.{slot_of}
-use Rattle.floor_rule.specs.Steps.{end_after, first_turn, row_after}
-use Rattle.floor_table.specs.FloorOf.{turn_in}
-use Rattle.floor_table.specs.Layout.{asked_of_clock, entries_of_clock}
-use Rattle.floor_table.specs.Tells.{drawn_view, entry_at, with_turn}
+use Rattle.seg_meaning.specs.declared.frame.Frame.{Frame}
+use Rattle.seg_meaning.specs.declared.stop.Stop.{Stop}
+use Rattle.machine_state.specs.declared.state.TaskRow.{TaskRow}
+use Rattle.floor_laws.specs.declared.rule.view.HeldTurn.{HeldTurn}
+use Rattle.floor_laws.specs.declared.rule.view.TaskSlot.{TaskSlot}
+use Rattle.floor_laws.specs.rule.Rows.{slot_of}
+use Rattle.floor_laws.specs.rule.Steps.{end_after, first_turn, row_after}
+use Rattle.floor_laws.specs.table.FloorOf.{turn_in}
+use Rattle.floor_laws.specs.table.Layout.{asked_of_clock, entries_of_clock}
+use Rattle.floor_laws.specs.table.Tells.{drawn_view, entry_at, with_turn}
 use Rattle.task_floor.specs.steps.Committing.{Log, MayCommitEntry, child_row, with_entry}
-use Rattle.admission_laws.specs.admission_core.States.{IsAmong, Record}
-use Rattle.floor_rule.specs.nodes.TurnSteps.{HasPlacedChildren}
-use Rattle.floor_table.specs.declared.nodes.slot.TreeSlot.TheVariants as kinds
-use Rattle.floor_table.specs.nodes.EntrySeats.{admission_at, admitted_view}
-use Rattle.floor_table.specs.nodes.FloorSeats.{floor_seat}
-use Rattle.floor_table.specs.nodes.Seats.{TreeSeat, turns_seen}
-use Rattle.floor_table.specs.nodes.TurnSeats.{given_tree_view}
+use Rattle.floor_laws.specs.admission.admission_core.States.{IsAmong, Record}
+use Rattle.floor_laws.specs.rule.nodes.TurnSteps.{HasPlacedChildren}
+use Rattle.floor_laws.specs.declared.table.nodes.slot.TreeSlot.TheVariants as kinds
+use Rattle.floor_laws.specs.table.nodes.EntrySeats.{admission_at, admitted_view}
+use Rattle.floor_laws.specs.table.nodes.FloorSeats.{floor_seat}
+use Rattle.floor_laws.specs.table.nodes.Seats.{TreeSeat, turns_seen}
+use Rattle.floor_laws.specs.table.nodes.TurnSeats.{given_tree_view}
 use Rattle.task_floor.specs.Leaving.{stored_view}
 
 -- Entries of segments.

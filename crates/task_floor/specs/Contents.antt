@@ -1,12 +1,12 @@
 -- What a stand has of the content of a node that it has locked. While the content is handed out, nothing lies in the node's slot.
 use Rattle.std.specs.Prelude.{◌≡◌, ℕ, List, ◌∷◌, None, Some}
 use Rattle.twe_base.specs.Limits.{Bounds}
-use Rattle.admission_laws.specs.admission_core.States.{Record}
-use Rattle.floor_table.specs.declared.nodes.slot.TreeSlot.{TreeSlot}
-use Rattle.floor_table.specs.declared.nodes.slot.TreeSlot.TheVariants as kinds
-use Rattle.floor_table.specs.nodes.Layout.{content_place}
-use Rattle.floor_table.specs.nodes.Seats.{TreeSeat}
-use Rattle.floor_table.specs.nodes.TreeOf.{content_in}
+use Rattle.floor_laws.specs.admission.admission_core.States.{Record}
+use Rattle.floor_laws.specs.declared.table.nodes.slot.TreeSlot.{TreeSlot}
+use Rattle.floor_laws.specs.declared.table.nodes.slot.TreeSlot.TheVariants as kinds
+use Rattle.floor_laws.specs.table.nodes.Layout.{content_place}
+use Rattle.floor_laws.specs.table.nodes.Seats.{TreeSeat}
+use Rattle.floor_laws.specs.table.nodes.TreeOf.{content_in}
 
 -- what is in the slot of a node whose content was handed out
 abbrev pub nothing : TreeSlot

@@ -2,23 +2,23 @@
 use Rattle.std.specs.Prelude.{◌≡◌, ◌≢◌, ◌⊎◌, ◌<◌, ℕ, true, false, List, [], ◌∷◌, None, Some}
 use Rattle.region_paths.specs.declared.elements.Elem.{Elem}
 use Rattle.twe_base.specs.Limits.{Bounds}
-use Rattle.twe_machine.specs.Moves.{status_at_start}
-use Rattle.floor_rule.specs.declared.view.HeldTurn.{HeldTurn}
-use Rattle.floor_rule.specs.declared.view.TaskSlot.{TaskSlot}
-use Rattle.floor_rule.specs.Rows.{slot_of}
-use Rattle.floor_table.specs.declared.view.SeatKind.TheVariants.{Spent}
-use Rattle.floor_table.specs.FloorOf.{turn_in}
+use Rattle.machine_state.specs.Moves.{status_at_start}
+use Rattle.floor_laws.specs.declared.rule.view.HeldTurn.{HeldTurn}
+use Rattle.floor_laws.specs.declared.rule.view.TaskSlot.{TaskSlot}
+use Rattle.floor_laws.specs.rule.Rows.{slot_of}
+use Rattle.floor_laws.specs.declared.table.view.SeatKind.TheVariants.{Spent}
+use Rattle.floor_laws.specs.table.FloorOf.{turn_in}
 use Rattle.task_floor.specs.steps.Committing.{Log}
 use Rattle.task_floor.specs.steps.Resuming.{HasInHand}
 use Rattle.task_floor.specs.steps.Segments.{MayRunSegment}
 use Rattle.task_floor.specs.steps.Working.{IsIdle}
-use Rattle.admission_laws.specs.admission_core.States.{IsAmong, Record}
-use Rattle.floor_table.specs.declared.nodes.slot.TreeSlot.TheVariants as kinds
-use Rattle.floor_table.specs.declared.nodes.view.TreeView.{TreeView}
-use Rattle.floor_table.specs.nodes.FloorSeats.{floor_seat}
-use Rattle.floor_table.specs.nodes.Holds.{HasLeftTree}
-use Rattle.floor_table.specs.nodes.Seats.{TreeSeat}
-use Rattle.floor_table.specs.nodes.TreeOf.{content_in}
+use Rattle.floor_laws.specs.admission.admission_core.States.{IsAmong, Record}
+use Rattle.floor_laws.specs.declared.table.nodes.slot.TreeSlot.TheVariants as kinds
+use Rattle.floor_laws.specs.declared.table.nodes.view.TreeView.{TreeView}
+use Rattle.floor_laws.specs.table.nodes.FloorSeats.{floor_seat}
+use Rattle.floor_laws.specs.table.nodes.Holds.{HasLeftTree}
+use Rattle.floor_laws.specs.table.nodes.Seats.{TreeSeat}
+use Rattle.floor_laws.specs.table.nodes.TreeOf.{content_in}
 use Rattle.task_floor.specs.Resuming.{KnowsEnough}
 
 -- The worker has nothing in hand: no turn, no slot and no open segment, and nothing of the tree. The stand is its own, and its

@@ -3,15 +3,15 @@ use Rattle.std.specs.Prelude.{◌≡◌, ℕ, List}
 use Rattle.region_paths.specs.declared.elements.Elem.{Elem}
 use Rattle.twe_base.specs.Limits.{Bounds}
 use Rattle.twe_program.specs.Program.{Program}
-use Rattle.twe_machine.specs.declared.state.State.{State}
-use Rattle.twe_machine.specs.Runs.{IsRun}
+use Rattle.machine_state.specs.declared.state.State.{State}
+use Rattle.machine_state.specs.Runs.{IsRun}
 use Rattle.seg_journal.specs.declared.numbered.NumberedEntry.{NumberedEntry}
 use Rattle.seg_journal.specs.Merging.{journal_of, prints_of}
-use Rattle.floor_rule.specs.Rule.{AreInOrder}
-use Rattle.admission_laws.specs.admission_core.States.{Record}
-use Rattle.floor_rule.specs.nodes.Starts.{AreOfEnabled}
-use Rattle.floor_table.specs.declared.nodes.slot.TreeSlot.{TreeSlot}
-use Rattle.floor_table.specs.nodes.Holds.{IsTreeLaidOut}
+use Rattle.floor_laws.specs.rule.Rule.{AreInOrder}
+use Rattle.floor_laws.specs.admission.admission_core.States.{Record}
+use Rattle.floor_laws.specs.rule.nodes.Starts.{AreOfEnabled}
+use Rattle.floor_laws.specs.declared.table.nodes.slot.TreeSlot.{TreeSlot}
+use Rattle.floor_laws.specs.table.nodes.Holds.{IsTreeLaidOut}
 
 -- the words and slots show the state of a run, whose entries are those of the log, and the records, which are those of its
 -- enabled tasks

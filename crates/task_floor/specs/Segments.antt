@@ -2,7 +2,7 @@
 use Rattle.std.specs.Prelude.{ℕ, ℤ, Option}
 use Rattle.twe_base.specs.Limits.{Bounds}
 use Rattle.twe_program.specs.Program.{Program}
-use Rattle.floor_rule.specs.declared.view.Touch.{Touch}
+use Rattle.floor_laws.specs.declared.rule.view.Touch.{Touch}
 use Rattle.task_floor.specs.steps.Segments as floor
 use Rattle.task_floor.specs.Stands.{StaysInTree, TreeStand, floor_stand}
 

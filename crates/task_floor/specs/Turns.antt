@@ -2,20 +2,20 @@
 -- in it was handed out.
 use Rattle.std.specs.Prelude.{◌≡◌, ◌≢◌, ℕ, List, ◌∷◌, Option, None}
 use Rattle.region_paths.specs.declared.elements.Elem.{Elem}
-use Rattle.floor_rule.specs.declared.view.HeldTurn.{HeldTurn}
-use Rattle.floor_rule.specs.declared.view.TaskSlot.{TaskSlot}
-use Rattle.floor_table.specs.Layout.{free_word}
+use Rattle.floor_laws.specs.declared.rule.view.HeldTurn.{HeldTurn}
+use Rattle.floor_laws.specs.declared.rule.view.TaskSlot.{TaskSlot}
+use Rattle.floor_laws.specs.table.Layout.{free_word}
 use Rattle.task_floor.specs.steps.Stands.{HasTaken, MayGiveBack, holder_in}
-use Rattle.admission_laws.specs.admission_core.States.{IsAmong, Record}
-use Rattle.floor_rule.specs.nodes.Taking.{clear_after_taking}
-use Rattle.floor_rule.specs.nodes.TurnSteps.{HasPlacedChildren}
-use Rattle.floor_table.specs.declared.nodes.slot.TreeSlot.{TreeSlot}
-use Rattle.floor_table.specs.declared.nodes.slot.TreeSlot.TheVariants as kinds
-use Rattle.floor_table.specs.nodes.FloorSeats.{floor_seat, tasks_out}
-use Rattle.floor_table.specs.declared.nodes.view.Look.TheVariants.{AtTurn}
-use Rattle.floor_table.specs.nodes.Looks.{looked_seat}
-use Rattle.floor_table.specs.nodes.Seats.{TreeSeat, turns_seen}
-use Rattle.floor_table.specs.nodes.TurnSeats.{MayLeaveTask}
+use Rattle.floor_laws.specs.admission.admission_core.States.{IsAmong, Record}
+use Rattle.floor_laws.specs.rule.nodes.Taking.{clear_after_taking}
+use Rattle.floor_laws.specs.rule.nodes.TurnSteps.{HasPlacedChildren}
+use Rattle.floor_laws.specs.declared.table.nodes.slot.TreeSlot.{TreeSlot}
+use Rattle.floor_laws.specs.declared.table.nodes.slot.TreeSlot.TheVariants as kinds
+use Rattle.floor_laws.specs.table.nodes.FloorSeats.{floor_seat, tasks_out}
+use Rattle.floor_laws.specs.declared.table.nodes.view.Look.TheVariants.{AtTurn}
+use Rattle.floor_laws.specs.table.nodes.Looks.{looked_seat}
+use Rattle.floor_laws.specs.table.nodes.Seats.{TreeSeat, turns_seen}
+use Rattle.floor_laws.specs.table.nodes.TurnSeats.{MayLeaveTask}
 
 -- The seat has taken the turn of task t as a seat of the floor does, and was handed what lay in the task's slot. It has placed no
 -- record of the task since it last got a turn of it, and has no first turn of a child of the task. Unless the task is enabled, it

@@ -1,22 +1,22 @@
 //! The cells of the program.
 ghost use Rattle.std.specs.Prelude.{◌≡◌, ◌≢◌, ◌<◌, ℕ, ℤ};
 ghost use Rattle.twe_program.specs.Program.{cell_count};
-ghost use Rattle.seg_exec.specs.Access.{Reads, Writes};
-ghost use Rattle.floor_table.specs.declared.view.SeatKind.TheVariants.{Spent};
-ghost use Rattle.floor_table.specs.Tells.{IsLastTouch, IsLatest, WroteCell};
+ghost use Rattle.seg_meaning.specs.Access.{Reads, Writes};
+ghost use Rattle.floor_laws.specs.declared.table.view.SeatKind.TheVariants.{Spent};
+ghost use Rattle.floor_laws.specs.table.Tells.{IsLastTouch, IsLatest, WroteCell};
 ghost use Rattle.task_floor.specs.steps.Stands.{HasLoaded, MayAccess};
-ghost use Rattle.floor_table.specs.nodes.FloorSeats.{HasTaskSlots, floor_seat};
+ghost use Rattle.floor_laws.specs.table.nodes.FloorSeats.{HasTaskSlots, floor_seat};
 ghost use Rattle.task_floor.specs.Stands.{StaysInTree};
 
 use crate::floor::{Floor, Stand};
 use crate::words::{value_of, word_of_value};
-use floor_table::Named;
-use floor_table::nodes::{LoadTreeCell, Planted, StoreTreeCell};
+use floor_laws::table::Named;
+use floor_laws::table::nodes::{LoadTreeCell, Planted, StoreTreeCell};
 
 impl<N: Named + Planted> Floor<N> {
     /// Loads a cell for the task whose slot is the latest that the stand has out, if the segment of that task may read the cell.
-    /// If the segment has read or written the cell before, it finds the value that the segment read or wrote there last. The
-    /// stand holds no node.
+    /// If the open segment has loaded or stored the cell before, it finds the value of the last load or store there. The stand
+    /// holds no node.
     pub fn load(&self, stand: &mut Stand, cell: u32) -> i32
         requires here { stand.old.table_id ≡ self.now }
         requires live { stand.old.me.0.floor.kind ≢ Spent }

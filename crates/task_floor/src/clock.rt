@@ -1,9 +1,9 @@
 //! What the word of the clock says: how many entries were drawn, and how many tasks were asked for.
 ghost use Rattle.std.specs.Prelude.{◌≡◌, ◌<◌, ◌+◌, ◌*◌, ◌^◌};
-ghost use Rattle.floor_table.specs.Layout.{asked_of_clock, entries_of_clock};
-ghost use Rattle.floor_table.specs.Tells.{clock_step};
+ghost use Rattle.floor_laws.specs.table.Layout.{asked_of_clock, entries_of_clock};
+ghost use Rattle.floor_laws.specs.table.Tells.{clock_step};
 
-use seg_exec::Stop;
+use seg_meaning::Stop;
 
 /// What the clock rises by if a task is asked for; it rises by 1 for each entry.
 const MAKE: u64 = 35_184_372_088_832;

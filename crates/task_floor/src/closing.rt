@@ -1,14 +1,14 @@
 //! How a floor is closed.
 ghost use Rattle.std.specs.Prelude.{◌≡◌};
 ghost use Rattle.core.specs.Mem.Slots.{IsFull, slots_items};
-ghost use Rattle.floor_table.specs.declared.view.SeatKind.TheVariants.{Main};
-ghost use Rattle.floor_table.specs.Holds.{HasGivenAll};
-ghost use Rattle.floor_table.specs.nodes.Shown.{EndedBesideNodes};
+ghost use Rattle.floor_laws.specs.declared.table.view.SeatKind.TheVariants.{Main};
+ghost use Rattle.floor_laws.specs.table.Holds.{HasGivenAll};
+ghost use Rattle.floor_laws.specs.table.nodes.Shown.{EndedBesideNodes};
 
 use crate::floor::{Floor, Stand};
 use atomic_table::Closed;
-use floor_table::Named;
-use floor_table::nodes::{Planted, TreeSlot};
+use floor_laws::table::Named;
+use floor_laws::table::nodes::{Planted, TreeSlot};
 use std::alloc::Global;
 
 impl<N: Named + Planted> Floor<N> {

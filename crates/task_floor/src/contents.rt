@@ -1,12 +1,12 @@
 //! The contents of nodes that a worker has locked. These calls touch the worker's own memory alone: they have no atomic step.
 ghost use Rattle.std.specs.Prelude.{◌≡◌, ◌<◌, ℕ, List, length};
-ghost use Rattle.floor_table.specs.declared.nodes.slot.TreeSlot as slots;
-ghost use Rattle.floor_table.specs.nodes.Seats.{HasContent};
+ghost use Rattle.floor_laws.specs.declared.table.nodes.slot.TreeSlot as slots;
+ghost use Rattle.floor_laws.specs.table.nodes.Seats.{HasContent};
 ghost use Rattle.task_floor.specs.Contents.{HasGivenContent, HasTakenContent, IsHandedOut};
 
 use crate::floor::{Floor, Stand};
-use floor_table::Named;
-use floor_table::nodes::{NodeContent, Planted, TreeSlot};
+use floor_laws::table::Named;
+use floor_laws::table::nodes::{NodeContent, Planted, TreeSlot};
 
 impl<N: Named + Planted> Floor<N> {
     /// Takes the content out of the slot of a node that the stand has locked. The slot is the latest that the stand has out. What

@@ -2,15 +2,15 @@
 ghost use Rattle.std.specs.Prelude.{◌≡◌, ◌<◌, ◌≤◌, ◌+◌, ◌++◌, ◌∷◌, [], ℕ, false, map, take, vec_len, vec_capacity, slice_index_or, IfOk};
 ghost use Rattle.core.specs.Mem.Slots.{IsFull, slots_filled, slots_items, slots_len};
 ghost use Rattle.core.specs.Mem.Slots.Ownership.{Filled};
-ghost use Rattle.floor_table.specs.declared.view.SeatKind.TheVariants.{Main};
-ghost use Rattle.floor_table.specs.Holds.{HasGivenAll};
+ghost use Rattle.floor_laws.specs.declared.table.view.SeatKind.TheVariants.{Main};
+ghost use Rattle.floor_laws.specs.table.Holds.{HasGivenAll};
 ghost use Rattle.task_floor.specs.inner.Emptying.{EndedWith, task_in};
 ghost use Rattle.task_floor.specs.steps.inner.Reading.{held_in};
 
 use crate::floor::{Floor, Stand};
 use atomic_table::Closed;
-use floor_table::nodes::{Planted, TreeSlot};
-use floor_table::{KeptSlot, Named};
+use floor_laws::table::nodes::{Planted, TreeSlot};
+use floor_laws::table::{KeptSlot, Named};
 use std::alloc::Global;
 use twe_base::{List, Memory};
 

@@ -1,15 +1,15 @@
 //! The entries of the journal.
 ghost use Rattle.std.specs.Prelude.{◌≡◌, ◌≢◌, ◌<◌, ◌+◌, ◌^◌, ℕ, Option, Some};
-ghost use Rattle.twe_machine.specs.declared.state.TaskRow.{TaskRow};
-ghost use Rattle.seg_exec.specs.declared.frame.Frame.{Frame};
-ghost use Rattle.seg_exec.specs.declared.stop.Stop.{Stop};
-ghost use Rattle.floor_rule.specs.declared.view.HeldTurn.{HeldTurn};
-ghost use Rattle.floor_table.specs.declared.view.SeatKind.TheVariants.{Spent};
-ghost use Rattle.floor_table.specs.Tells.{IsLatest, MayDraw, clock_step};
-ghost use Rattle.floor_rule.specs.nodes.TurnSteps.{HasPlacedChildren};
-ghost use Rattle.floor_table.specs.nodes.EntrySeats.{DrewAdmission, DrewTreeEntry, MayAdmitLatest};
-ghost use Rattle.floor_table.specs.nodes.FloorSeats.{HasTaskSlots, floor_seat};
-ghost use Rattle.floor_table.specs.nodes.Seats.{TreeSeat, turns_seen};
+ghost use Rattle.machine_state.specs.declared.state.TaskRow.{TaskRow};
+ghost use Rattle.seg_meaning.specs.declared.frame.Frame.{Frame};
+ghost use Rattle.seg_meaning.specs.declared.stop.Stop.{Stop};
+ghost use Rattle.floor_laws.specs.declared.rule.view.HeldTurn.{HeldTurn};
+ghost use Rattle.floor_laws.specs.declared.table.view.SeatKind.TheVariants.{Spent};
+ghost use Rattle.floor_laws.specs.table.Tells.{IsLatest, MayDraw, clock_step};
+ghost use Rattle.floor_laws.specs.rule.nodes.TurnSteps.{HasPlacedChildren};
+ghost use Rattle.floor_laws.specs.table.nodes.EntrySeats.{DrewAdmission, DrewTreeEntry, MayAdmitLatest};
+ghost use Rattle.floor_laws.specs.table.nodes.FloorSeats.{HasTaskSlots, floor_seat};
+ghost use Rattle.floor_laws.specs.table.nodes.Seats.{TreeSeat, turns_seen};
 ghost use Rattle.task_floor.specs.Committing.{HasAdmitted, HasCommittedBeside, MayCommitBeside, left_to_place, with_made};
 ghost use Rattle.task_floor.specs.inner.Bringing.{MayBringBeside};
 
@@ -17,11 +17,11 @@ use crate::clock::{asked_of, clock_step, entries_of};
 use crate::entry_log::EntryLog;
 use crate::floor::{Floor, Stand};
 use crate::settling::{settle, spawner, take_prints};
-use floor_rule::TaskSlot;
-use floor_table::nodes::{DrawAdmission, DrawTreeEntry, Planted};
-use floor_table::{KeptSlot, Named};
-use seg_exec::Stop;
+use floor_laws::rule::TaskSlot;
+use floor_laws::table::nodes::{DrawAdmission, DrawTreeEntry, Planted};
+use floor_laws::table::{KeptSlot, Named};
 use seg_journal::{End, Entry, Kind, Limits, Move, NumberedEntry};
+use seg_meaning::Stop;
 use std::alloc::Global;
 use twe_base::Ints;
 

@@ -3,8 +3,8 @@ ghost use Rattle.std.specs.Prelude.{◌≡◌, ◌<◌, IsSome, OnOk, OnErr};
 ghost use Rattle.task_floor.specs.steps.Committing.{empty_log, with_entry};
 
 use crate::tally::Tally;
-use floor_rule::TaskSlot;
-use floor_table::{KeptSlot, SlotRoom};
+use floor_laws::rule::TaskSlot;
+use floor_laws::table::{KeptSlot, SlotRoom};
 use seg_journal::{JournalPart, NumberedEntry};
 use std::alloc::Global;
 use std::marker::Model;

@@ -2,12 +2,12 @@
 ghost use Rattle.std.specs.Prelude.{◌≡◌, ◌<◌, ◌^◌, length};
 ghost use Rattle.twe_program.specs.Program.{cell_count};
 ghost use Rattle.twe_program.specs.WellFormed.{IsWellFormed};
-ghost use Rattle.floor_table.specs.Layout.{cell_place, phase_place, turn_place, word_count};
-ghost use Rattle.floor_table.specs.nodes.Layout.{content_place, decider_place, lock_place, tree_slot_count, tree_word_count};
+ghost use Rattle.floor_laws.specs.table.Layout.{cell_place, phase_place, turn_place, word_count};
+ghost use Rattle.floor_laws.specs.table.nodes.Layout.{content_place, decider_place, lock_place, tree_slot_count, tree_word_count};
 
 use atomic_table::{Seat, Table};
-use floor_table::Named;
-use floor_table::nodes::{Planted, TreeLaw, TreeSlot, TreeStart, TreeView};
+use floor_laws::table::Named;
+use floor_laws::table::nodes::{Planted, TreeLaw, TreeSlot, TreeStart, TreeView};
 use std::alloc::Global;
 use std::marker::Model;
 
@@ -34,8 +34,8 @@ impl<N: Named + Planted> Model for Floor<N> {
     ghost use Rattle.std.specs.Prelude.{◌≡◌, ◌<◌, ◌^◌};
     ghost use Rattle.atomic_table.specs.Seated.{TableId};
     ghost use Rattle.twe_program.specs.Program.{cell_count};
-    ghost use Rattle.floor_table.specs.Layout.{word_count};
-    ghost use Rattle.floor_table.specs.nodes.Layout.{tree_slot_count, tree_word_count};
+    ghost use Rattle.floor_laws.specs.table.Layout.{word_count};
+    ghost use Rattle.floor_laws.specs.table.nodes.Layout.{tree_slot_count, tree_word_count};
 
     ghost Value = { TableId };
 

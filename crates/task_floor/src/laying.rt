@@ -1,15 +1,15 @@
 //! The words of a floor that starts from a state, and what the slot of a task holds then.
 ghost use Rattle.std.specs.Prelude.{◌≡◌, ◌<◌, ◌≤◌, ◌-◌, ◌^◌, ◌++◌, ℕ, List, length, IfOk, OnOk};
-ghost use Rattle.floor_rule.specs.Rows.{slot_of};
+ghost use Rattle.floor_laws.specs.rule.Rows.{slot_of};
 ghost use Rattle.task_floor.specs.steps.inner.Laying.{AreWordsOf, head_words, in_lines, made_words, unmade_words};
 
 use crate::clock::clock_of;
 use crate::row_phase::phase_of;
 use crate::words::{word_of, word_of_value};
-use floor_rule::TaskSlot;
+use floor_laws::rule::TaskSlot;
+use machine_state::{State, TaskRow};
 use std::alloc::Global;
 use twe_base::{List, Memory};
-use twe_machine::{State, TaskRow};
 
 /// The words that show a state after this many entries, if so many tasks may be made. They lie in memory that has room for
 /// `room` words.

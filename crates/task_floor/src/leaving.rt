@@ -1,17 +1,17 @@
 //! How a worker leaves a task: its phase is stored, what its last entry left goes into its slot, and its turn is given.
 ghost use Rattle.std.specs.Prelude.{◌≡◌, ◌≢◌, ◌<◌, ℕ, List};
-ghost use Rattle.floor_rule.specs.declared.view.HeldTurn.{HeldTurn};
-ghost use Rattle.floor_rule.specs.Rows.{phase_of};
-ghost use Rattle.floor_table.specs.declared.view.SeatKind.TheVariants.{Spent};
-ghost use Rattle.floor_table.specs.declared.nodes.slot.TreeSlot.{TreeSlot};
-ghost use Rattle.floor_table.specs.nodes.FloorSeats.{HasTaskSlots};
+ghost use Rattle.floor_laws.specs.declared.rule.view.HeldTurn.{HeldTurn};
+ghost use Rattle.floor_laws.specs.rule.Rows.{phase_of};
+ghost use Rattle.floor_laws.specs.declared.table.view.SeatKind.TheVariants.{Spent};
+ghost use Rattle.floor_laws.specs.declared.table.nodes.slot.TreeSlot.{TreeSlot};
+ghost use Rattle.floor_laws.specs.table.nodes.FloorSeats.{HasTaskSlots};
 ghost use Rattle.task_floor.specs.Leaving.{HasLeftTask, MayFinishTask, MayGiveNew, MayGoFrom, MayParkTask};
 
 use crate::floor::{Floor, Stand};
 use crate::settling::{new_phase, parked_phase};
-use floor_rule::Phase;
-use floor_table::nodes::Planted;
-use floor_table::{KeptSlot, Named};
+use floor_laws::rule::Phase;
+use floor_laws::table::nodes::Planted;
+use floor_laws::table::{KeptSlot, Named};
 
 impl<N: Named + Planted> Floor<N> {
     /// Leaves an enabled task whose slot is the latest that the stand has out, with what its last entry left: stores its phase,

@@ -2,12 +2,13 @@
 ghost use Rattle.std.specs.Prelude.{◌≡◌, ◌<◌, length, map, slice_set, IfOk, if◌then◌else◌};
 ghost use Rattle.std.specs.Option.{ForSome};
 ghost use Rattle.wait_graph.specs.Link.{IsOrdered, link_of, new_link, with_done, with_joined};
-ghost use Rattle.twe_machine.specs.Rows.{row_awaited, is_done_status, link_of_row};
+ghost use Rattle.machine_state.specs.Rows.{row_awaited, is_done_status, link_of_row};
 ghost use Rattle.task_floor.specs.steps.inner.Reading.{links_to};
 
+use machine_state::{TaskRow, TaskStatus};
 use std::alloc::Global;
 use twe_base::Memory;
-use twe_machine::{TaskRow, TaskStatus, awaited};
+use twe_machine::awaited;
 use wait_graph::Links;
 
 /// The links of the tasks with these rows.

@@ -3,15 +3,15 @@
 //! or two.
 ghost use Rattle.std.specs.Prelude.{◌≡◌, ◌<◌, IsFalse, IsTrue, length};
 ghost use mathlib.Core.Option.{none, some};
-ghost use Rattle.admission_laws.specs.admission_core.States.{Activity};
-ghost use Rattle.floor_table.specs.declared.nodes.slot.TreeSlot.TheVariants as kinds;
-ghost use Rattle.floor_rule.specs.nodes.Trees.{Unlocked};
-ghost use Rattle.floor_table.specs.nodes.Layout.{lock_of_word};
-ghost use Rattle.floor_table.specs.nodes.Seats.{MayLock, MayPass, TookNode, passed_view};
+ghost use Rattle.floor_laws.specs.admission.admission_core.States.{Activity};
+ghost use Rattle.floor_laws.specs.declared.table.nodes.slot.TreeSlot.TheVariants as kinds;
+ghost use Rattle.floor_laws.specs.rule.nodes.Trees.{Unlocked};
+ghost use Rattle.floor_laws.specs.table.nodes.Layout.{lock_of_word};
+ghost use Rattle.floor_laws.specs.table.nodes.Seats.{MayLock, MayPass, TookNode, passed_view};
 
 use crate::floor::{Floor, Stand};
-use floor_table::Named;
-use floor_table::nodes::{Errand, PassNode, Planted, TreeSlot, TryNode};
+use floor_laws::table::Named;
+use floor_laws::table::nodes::{Errand, PassNode, Planted, TreeSlot, TryNode};
 
 impl<N: Named + Planted> Floor<N> {
     /// Tries to lock the root for this worker, whose stand it is and which does nothing in the tree. The stand announces what it

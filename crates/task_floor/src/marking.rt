@@ -2,17 +2,17 @@
 //! by it in the decider word of the record's task whether that task decides there; the other steps leave the lock word as it was.
 //! The content that the worker has in hand is its own: it has to change it as the mark says before it gives it back.
 ghost use Rattle.std.specs.Prelude.{◌≡◌, ◌<◌, ℕ, IsTrue, List, Some, length};
-ghost use Rattle.admission_laws.specs.admission_core.States.{Activity, Record};
-ghost use Rattle.floor_rule.specs.nodes.FactSteps.{FindsClear};
-ghost use Rattle.floor_table.specs.nodes.Deciders.{AllWaitFor, MayDecide, learned_of};
-ghost use Rattle.floor_table.specs.nodes.Layout.{decider_at};
-ghost use Rattle.floor_table.specs.nodes.RecordSeats.{MayMark, MayUnmark, clear_view, marked_view, record_about, record_task, unmarked_view};
-ghost use Rattle.floor_table.specs.nodes.Seats.{tree_seen, turns_seen};
+ghost use Rattle.floor_laws.specs.admission.admission_core.States.{Activity, Record};
+ghost use Rattle.floor_laws.specs.rule.nodes.FactSteps.{FindsClear};
+ghost use Rattle.floor_laws.specs.table.nodes.Deciders.{AllWaitFor, MayDecide, learned_of};
+ghost use Rattle.floor_laws.specs.table.nodes.Layout.{decider_at};
+ghost use Rattle.floor_laws.specs.table.nodes.RecordSeats.{MayMark, MayUnmark, clear_view, marked_view, record_about, record_task, unmarked_view};
+ghost use Rattle.floor_laws.specs.table.nodes.Seats.{tree_seen, turns_seen};
 
 use crate::floor::{Floor, Stand};
 use crate::words::decider_word;
-use floor_table::Named;
-use floor_table::nodes::{LookUpDecider, MarkClear, MarkPlaced, MarkRemoved, Planted};
+use floor_laws::table::Named;
+use floor_laws::table::nodes::{LookUpDecider, MarkClear, MarkPlaced, MarkRemoved, Planted};
 
 impl<N: Named + Planted> Floor<N> {
     /// Marks the record of this task that this worker, whose stand it is, went for as placed at its place. The record is in front

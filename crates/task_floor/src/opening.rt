@@ -5,14 +5,14 @@ ghost use Rattle.twe_base.specs.Limits.{IsWithin};
 ghost use Rattle.twe_program.specs.Program.{cell_count};
 ghost use Rattle.twe_program.specs.WellFormed.{IsWellFormed};
 ghost use Rattle.isolation_laws.specs.soundness.KeepsEffects.{KeepsEffects};
-ghost use Rattle.twe_machine.specs.declared.state.State.{State};
-ghost use Rattle.floor_table.specs.nodes.Holds.{first_tree_view};
+ghost use Rattle.machine_state.specs.declared.state.State.{State};
+ghost use Rattle.floor_laws.specs.table.nodes.Holds.{first_tree_view};
 ghost use Rattle.task_floor.specs.Opening.{ShowsTreeRun};
 
 use crate::floor::{Floor, Stand};
 use atomic_table::Table;
-use floor_table::Named;
-use floor_table::nodes::{Planted, TreeSlot, TreeStart};
+use floor_laws::table::Named;
+use floor_laws::table::nodes::{Planted, TreeSlot, TreeStart};
 use std::alloc::{AllocError, Global};
 use twe_base::{List, Memory};
 

@@ -1,19 +1,19 @@
 //! The phases of tasks.
 ghost use Rattle.std.specs.Prelude.{◌≡◌, ◌≢◌, ◌<◌};
-ghost use Rattle.floor_rule.specs.declared.view.HeldTurn.{HeldTurn};
-ghost use Rattle.floor_table.specs.declared.view.SeatKind.TheVariants.{Spent};
-ghost use Rattle.floor_table.specs.Layout.{word_of_phase};
-ghost use Rattle.floor_table.specs.Tells.{MayStore, StoredPhase};
-ghost use Rattle.floor_table.specs.nodes.Alone.{LearnsAlone};
-ghost use Rattle.floor_table.specs.nodes.FloorSeats.{HasTaskSlots, floor_seat};
-ghost use Rattle.floor_table.specs.nodes.Follows.{FollowedPhase};
+ghost use Rattle.floor_laws.specs.declared.rule.view.HeldTurn.{HeldTurn};
+ghost use Rattle.floor_laws.specs.declared.table.view.SeatKind.TheVariants.{Spent};
+ghost use Rattle.floor_laws.specs.table.Layout.{word_of_phase};
+ghost use Rattle.floor_laws.specs.table.Tells.{MayStore, StoredPhase};
+ghost use Rattle.floor_laws.specs.table.nodes.Alone.{LearnsAlone};
+ghost use Rattle.floor_laws.specs.table.nodes.FloorSeats.{HasTaskSlots, floor_seat};
+ghost use Rattle.floor_laws.specs.table.nodes.Follows.{FollowedPhase};
 ghost use Rattle.task_floor.specs.Stands.{StaysInTree};
 
 use crate::floor::{Floor, Stand};
 use crate::words::{phase_of, word_of};
-use floor_rule::Phase;
-use floor_table::Named;
-use floor_table::nodes::{FollowWait, Planted, StoreTreePhase};
+use floor_laws::rule::Phase;
+use floor_laws::table::Named;
+use floor_laws::table::nodes::{FollowWait, Planted, StoreTreePhase};
 
 impl<N: Named + Planted> Floor<N> {
     /// What the phase word of a task says. A stand that finds `Done` knows the task's value from then on. One that finds that the

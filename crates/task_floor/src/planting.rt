@@ -1,14 +1,14 @@
 //! The words of nodes, behind those of a floor that starts, and the slots of such a floor.
 ghost use Rattle.std.specs.Prelude.{◌≡◌, ◌≤◌, ◌-◌, ◌++◌, None, length, map, replicate, IfOk, OnOk};
-ghost use Rattle.floor_table.specs.declared.nodes.slot.TreeSlot.TheVariants as kinds;
+ghost use Rattle.floor_laws.specs.declared.table.nodes.slot.TreeSlot.TheVariants as kinds;
 ghost use Rattle.task_floor.specs.steps.inner.Laying.{held_slot};
 
 use crate::laying::slot_of;
-use floor_table::KeptSlot;
-use floor_table::nodes::{NodeContent, TreeSlot};
+use floor_laws::table::KeptSlot;
+use floor_laws::table::nodes::{NodeContent, TreeSlot};
+use machine_state::TaskRow;
 use std::alloc::Global;
 use twe_base::{List, Memory};
-use twe_machine::TaskRow;
 
 /// Adds so many words that are 0: the decider words of tasks that decide at no node, and the lock words of nodes that nobody has
 /// locked.

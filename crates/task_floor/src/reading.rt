@@ -2,21 +2,21 @@
 ghost use Rattle.std.specs.Prelude.{◌≡◌, ◌<◌, ◌≤◌, ◌+◌, ◌*◌, ◌^◌, ℕ, length, IfOk};
 ghost use Rattle.core.specs.Mem.Slots.{IsFull, slots_items, slots_len};
 ghost use lib.ListN.{get_elem?};
-ghost use Rattle.floor_rule.specs.Shown.{first_fault_in, row_by, status_by, value_by};
-ghost use Rattle.floor_table.specs.Layout.{cell_place, cell_words_from, cache_line, number_at, phase_of_word, task_span};
+ghost use Rattle.floor_laws.specs.rule.Shown.{first_fault_in, row_by, status_by, value_by};
+ghost use Rattle.floor_laws.specs.table.Layout.{cell_place, cell_words_from, cache_line, number_at, phase_of_word, task_span};
 ghost use Rattle.task_floor.specs.steps.inner.Reading.{joined_unless, rows_from};
 
 use crate::floor::{CACHE_LINE, TASK_SPAN};
 use crate::unjoined::mark;
 use crate::words::value_of;
 use atomic_table::Closed;
-use floor_rule::TaskSlot;
-use floor_table::KeptSlot;
-use floor_table::nodes::TreeSlot;
+use floor_laws::rule::TaskSlot;
+use floor_laws::table::KeptSlot;
+use floor_laws::table::nodes::TreeSlot;
+use machine_state::{FirstFault, TaskRow, TaskStatus};
 use seg_journal::{End, Entry};
 use std::alloc::Global;
 use twe_base::{Ints, List, Memory};
-use twe_machine::{FirstFault, TaskRow, TaskStatus};
 
 /// The values of this many cells, whose words are in a closed table.
 pub(crate) fn cells_of(

@@ -1,17 +1,17 @@
 //! The records of the enabled tasks, with which the nodes of a floor start.
 ghost use Rattle.std.specs.Prelude.{◌≡◌, ◌≤◌, ◌<◌, ◌^◌, ◌++◌, ℕ, List, length, IfOk, OnOk};
 ghost use Rattle.std.specs.List.{list_any};
-ghost use Rattle.admission_laws.specs.admission_core.States.{IsPlaceOf, Record};
-ghost use Rattle.floor_rule.specs.nodes.Starts.{AreOfEnabled};
-ghost use Rattle.floor_table.specs.nodes.Without.{same_record};
+ghost use Rattle.floor_laws.specs.admission.admission_core.States.{IsPlaceOf, Record};
+ghost use Rattle.floor_laws.specs.rule.nodes.Starts.{AreOfEnabled};
+ghost use Rattle.floor_laws.specs.table.nodes.Without.{same_record};
 ghost use Rattle.task_floor.specs.inner.Recording.{AreRecordsOf, live_effects, with_record};
 
 use effect_sets::Effect;
 use effect_tree::Shape;
-use floor_table::nodes::NodeRecord;
+use floor_laws::table::nodes::NodeRecord;
+use machine_state::{State, TaskRow, TaskStatus};
 use std::alloc::Global;
 use twe_base::{List, Memory};
-use twe_machine::{State, TaskRow, TaskStatus};
 
 /// A record for each effect of each enabled task, at the effect's place.
 pub(crate) fn records_of(

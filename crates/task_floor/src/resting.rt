@@ -4,10 +4,10 @@ ghost use Rattle.core.specs.Mem.Slots.{IsFull, slots_items};
 ghost use Rattle.twe_base.specs.Limits.{IsWithin};
 ghost use Rattle.twe_program.specs.Program.{cell_count};
 ghost use Rattle.twe_program.specs.WellFormed.{IsWellFormed};
-ghost use Rattle.twe_machine.specs.Runs.{Legal, state_after};
+ghost use Rattle.machine_state.specs.Runs.{Legal, state_after};
 ghost use Rattle.seg_journal.specs.Merging.{all_of};
-ghost use Rattle.floor_table.specs.declared.view.SeatKind.TheVariants.{Main};
-ghost use Rattle.floor_table.specs.Holds.{HasGivenAll};
+ghost use Rattle.floor_laws.specs.declared.table.view.SeatKind.TheVariants.{Main};
+ghost use Rattle.floor_laws.specs.table.Holds.{HasGivenAll};
 ghost use Rattle.task_floor.specs.inner.Emptying.{EndedAfter, ShowsState};
 ghost use Rattle.task_floor.specs.steps.Resting.{IsRestOf};
 
@@ -18,12 +18,12 @@ use crate::linking::links_of;
 use crate::reading::{cells_of, first_fault_in, rows_of};
 use crate::steps::Rest;
 use atomic_table::Closed;
-use floor_table::nodes::{Planted, TreeSlot};
-use floor_table::{KeptSlot, Named};
+use floor_laws::table::nodes::{Planted, TreeSlot};
+use floor_laws::table::{KeptSlot, Named};
+use machine_state::State;
 use seg_journal::{Entry, JournalPart, merge};
 use std::alloc::Global;
 use twe_base::{Ints, List, Memory};
-use twe_machine::State;
 
 impl<N: Named + Planted> Floor<N> {
     /// Closes the floor, once all other stands were joined to the main one and it has given all its turns: the journal that

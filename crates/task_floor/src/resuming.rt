@@ -1,21 +1,21 @@
 //! How a task that a stand has in hand goes on.
 ghost use Rattle.std.specs.Prelude.{◌≡◌, ◌≢◌, ◌<◌, ℕ, None, IfNone, IfSome};
-ghost use Rattle.floor_rule.specs.declared.view.HeldTurn.{HeldTurn};
-ghost use Rattle.floor_rule.specs.declared.view.Phase.TheVariants.{Waits};
-ghost use Rattle.floor_rule.specs.Rows.{phase_of};
-ghost use Rattle.floor_table.specs.declared.view.SeatKind.TheVariants.{Spent};
+ghost use Rattle.floor_laws.specs.declared.rule.view.HeldTurn.{HeldTurn};
+ghost use Rattle.floor_laws.specs.declared.rule.view.Phase.TheVariants.{Waits};
+ghost use Rattle.floor_laws.specs.rule.Rows.{phase_of};
+ghost use Rattle.floor_laws.specs.declared.table.view.SeatKind.TheVariants.{Spent};
 ghost use Rattle.task_floor.specs.declared.steps.readiness.Readiness.TheVariants as readiness;
 ghost use Rattle.task_floor.specs.steps.Resuming.{HasInHand, IsReadiness, KnowsValue};
-ghost use Rattle.floor_table.specs.nodes.FloorSeats.{HasTaskSlots, floor_seat};
+ghost use Rattle.floor_laws.specs.table.nodes.FloorSeats.{HasTaskSlots, floor_seat};
 ghost use Rattle.task_floor.specs.Alone.{IsUndoneIfAlone};
-ghost use Rattle.task_floor.specs.Resuming.{KnowsEnough, KnowsMoreBeside, MovesOnBeside, WasNotDone};
+ghost use Rattle.task_floor.specs.Resuming.{KnowsEnough, KnowsMoreBeside, LeftTurnUnlessUndone, MovesOnBeside, WasNotDone};
 
 use crate::floor::{Floor, Stand};
 use crate::steps::Readiness;
-use floor_rule::Phase;
-use floor_table::nodes::Planted;
-use floor_table::{KeptSlot, Named};
-use seg_exec::Frame;
+use floor_laws::rule::Phase;
+use floor_laws::table::nodes::Planted;
+use floor_laws::table::{KeptSlot, Named};
+use seg_meaning::Frame;
 
 /// The value that lies in the slot of a done task.
 fn value_in(slot: &KeptSlot) -> i32
@@ -25,9 +25,9 @@ fn value_in(slot: &KeptSlot) -> i32
 }
 
 impl<N: Named + Planted> Floor<N> {
-    /// The value of a task. `None` if its phase word does not say that it is done, or if another worker has its turn just then:
-    /// the stand has found that; the only stand finds the value of each done task. Otherwise the stand knows the task to be done
-    /// with this value from then on. The stand holds no node and does nothing in the tree.
+    /// The value of a task. `None` if its phase word does not say that it is done, or if its turn is not free just then, which this
+    /// call has not taken itself: the stand has found that; the only stand finds the value of each done task. Otherwise the stand
+    /// knows the task to be done with this value from then on. The stand holds no node and does nothing in the tree.
     pub fn value_of(&self, stand: &mut Stand, worker: u32, task: u32) -> Option<i32>
         requires here { stand.old.table_id ≡ self.now }
         requires live { stand.old.me.0.floor.kind ≢ Spent }
@@ -38,6 +38,7 @@ impl<N: Named + Planted> Floor<N> {
         requires idle { stand.old.me.0.activity ≡ None }
         ensures value { IfSome result (λ value. KnowsValue (floor_seat stand.new.me) task value) }
         ensures none { IfNone result (WasNotDone stand.old.me.0.looks stand.new.me.0.looks task) }
+        ensures left { IfNone result (LeftTurnUnlessUndone stand.old.me.0 stand.new.me.0 task) }
         ensures alone { IfNone result (IsUndoneIfAlone N.prog N.lim stand.old.me.0.floor task) }
         ensures more { KnowsMoreBeside stand.old.me stand.new.me task }
         ensures same { (stand.new.table_id ≡ stand.old.table_id) × (stand.new.id ≡ stand.old.id) }
@@ -59,6 +60,7 @@ impl<N: Named + Planted> Floor<N> {
         requires idle { stand.old.me.0.activity ≡ None }
         ensures value { IfSome result (λ value. KnowsValue (floor_seat stand.new.me) task value) }
         ensures none { IfNone result (WasNotDone stand.old.me.0.looks stand.new.me.0.looks task) }
+        ensures left { IfNone result (LeftTurnUnlessUndone stand.old.me.0 stand.new.me.0 task) }
         ensures alone { IfNone result (IsUndoneIfAlone N.prog N.lim stand.old.me.0.floor task) }
         ensures more { KnowsMoreBeside stand.old.me stand.new.me task }
         ensures same { (stand.new.table_id ≡ stand.old.table_id) × (stand.new.id ≡ stand.old.id) }
@@ -100,6 +102,7 @@ impl<N: Named + Planted> Floor<N> {
             → KnowsEnough N.nodes stand.new.me.0 task turn.row }
         ensures waits { (on : ℕ) → result ≡ readiness.Waits on
             → WasNotDone stand.old.me.0.looks stand.new.me.0.looks on }
+        ensures left { (on : ℕ) → result ≡ readiness.Waits on → LeftTurnUnlessUndone stand.old.me.0 stand.new.me.0 on }
         ensures alone { (on : ℕ) → result ≡ readiness.Waits on → IsUndoneIfAlone N.prog N.lim stand.old.me.0.floor on }
         ensures above { (on : ℕ) → result ≡ readiness.Waits on → task < on }
         ensures moves { MovesOnBeside stand.old.me stand.new.me task }
@@ -140,6 +143,7 @@ impl<N: Named + Planted> Floor<N> {
             → KnowsEnough N.nodes stand.new.me.0 task turn.row }
         ensures waits { (on : ℕ) → result ≡ readiness.Waits on
             → WasNotDone stand.old.me.0.looks stand.new.me.0.looks on }
+        ensures left { (on : ℕ) → result ≡ readiness.Waits on → LeftTurnUnlessUndone stand.old.me.0 stand.new.me.0 on }
         ensures alone { (on : ℕ) → result ≡ readiness.Waits on → IsUndoneIfAlone N.prog N.lim stand.old.me.0.floor on }
         ensures above { (on : ℕ) → result ≡ readiness.Waits on → task < on }
         ensures moves { MovesOnBeside stand.old.me stand.new.me task }

@@ -1,12 +1,13 @@
 //! The phase of a task, by its row or by its frame.
 ghost use Rattle.std.specs.Prelude.{◌≡◌};
-ghost use Rattle.twe_machine.specs.declared.state.TaskStatus.TheVariants.{Enabled};
-ghost use Rattle.twe_machine.specs.Rows.{row_awaited};
-ghost use Rattle.floor_rule.specs.Rows.{phase_at, phase_of};
+ghost use Rattle.machine_state.specs.declared.state.TaskStatus.TheVariants.{Enabled};
+ghost use Rattle.machine_state.specs.Rows.{row_awaited};
+ghost use Rattle.floor_laws.specs.rule.Rows.{phase_at, phase_of};
 
-use floor_rule::Phase;
-use seg_exec::Next;
-use twe_machine::{TaskRow, TaskStatus, awaited};
+use floor_laws::rule::Phase;
+use machine_state::{TaskRow, TaskStatus};
+use seg_meaning::Next;
+use twe_machine::awaited;
 
 /// What the phase word of a task with this row says while nobody has its turn.
 pub(crate) fn phase_of(row: &TaskRow) -> Phase

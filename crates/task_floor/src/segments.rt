@@ -1,11 +1,11 @@
 //! Segments over the cells of the floor.
 ghost use Rattle.std.specs.Prelude.{◌≡◌, ◌≢◌, ℕ, IfOk, None};
-ghost use Rattle.seg_exec.specs.Access.{HasRead};
-ghost use Rattle.seg_exec.specs.Segment.{HasRoomToSpawn};
-ghost use Rattle.floor_rule.specs.declared.view.HeldTurn.{HeldTurn};
-ghost use Rattle.floor_table.specs.declared.view.SeatKind.TheVariants.{Spent};
+ghost use Rattle.seg_meaning.specs.Access.{HasRead};
+ghost use Rattle.seg_meaning.specs.Segment.{HasRoomToSpawn};
+ghost use Rattle.floor_laws.specs.declared.rule.view.HeldTurn.{HeldTurn};
+ghost use Rattle.floor_laws.specs.declared.table.view.SeatKind.TheVariants.{Spent};
 ghost use Rattle.task_floor.specs.steps.Segments.{HasRunSegment, MayRunSegment};
-ghost use Rattle.floor_table.specs.nodes.FloorSeats.{HasTaskSlots, floor_seat};
+ghost use Rattle.floor_laws.specs.table.nodes.FloorSeats.{HasTaskSlots, floor_seat};
 ghost use Rattle.task_floor.specs.Segments.{MayReadCell};
 ghost use Rattle.task_floor.specs.Stands.{StaysInTree};
 ghost use Rattle.task_floor.specs.declared.in_hand.CellInHand.TheVariants.{Nothing};
@@ -22,12 +22,13 @@ ghost use Rattle.task_floor.specs.inner.InHand.{
 
 use crate::floor::{Floor, Stand};
 use crate::in_hand::CellInHand;
-use floor_table::Named;
-use floor_table::nodes::Planted;
-use run_gates::Gate;
-use seg_exec::{Cells, Frame, Stop, run_segment};
+use floor_laws::table::Named;
+use floor_laws::table::nodes::Planted;
+use seg_exec::run_segment;
+use seg_meaning::{Cells, Frame, Stop};
 use std::alloc::Global;
 use std::marker::Model;
+use steal_pool::gates::Gate;
 use twe_base::Memory;
 use twe_program::Prog;
 
@@ -48,8 +49,8 @@ pub(crate) struct Seg<'a, N: Named + Planted, G> {
 
 impl<'a, N: Named + Planted, G> Model for Seg<'a, N, G> {
     ghost use Rattle.std.specs.Prelude.{◌≡◌, ◌≢◌};
-    ghost use Rattle.floor_table.specs.declared.view.SeatKind.TheVariants.{Spent};
-    ghost use Rattle.floor_table.specs.nodes.FloorSeats.{HasTaskSlots};
+    ghost use Rattle.floor_laws.specs.declared.table.view.SeatKind.TheVariants.{Spent};
+    ghost use Rattle.floor_laws.specs.table.nodes.FloorSeats.{HasTaskSlots};
     ghost use Rattle.task_floor.specs.inner.InHand.{HandFits, SegView};
 
     ghost Value = { SegView };

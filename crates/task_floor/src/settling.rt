@@ -1,20 +1,20 @@
 //! What an entry does to the frame of its task, how it ends, and what the slot of a task that it makes will hold.
 ghost use Rattle.std.specs.Prelude.{◌≡◌, ◌<◌, ◌+◌, ◌^◌, option_map};
-ghost use Rattle.seg_exec.specs.Segment.{HasRoomToSpawn};
-ghost use Rattle.twe_machine.specs.declared.state.TaskStatus.TheVariants.{Enabled};
-ghost use Rattle.twe_machine.specs.Moves.{frame_without_prints, new_row, status_at_start, stopped_frame};
-ghost use Rattle.twe_machine.specs.Rows.{row_awaited};
-ghost use Rattle.floor_rule.specs.Rows.{phase_at, slot_of};
-ghost use Rattle.floor_rule.specs.Steps.{end_after};
+ghost use Rattle.seg_meaning.specs.Segment.{HasRoomToSpawn};
+ghost use Rattle.machine_state.specs.declared.state.TaskStatus.TheVariants.{Enabled};
+ghost use Rattle.machine_state.specs.Moves.{frame_without_prints, new_row, status_at_start, stopped_frame};
+ghost use Rattle.machine_state.specs.Rows.{row_awaited};
+ghost use Rattle.floor_laws.specs.rule.Rows.{phase_at, slot_of};
+ghost use Rattle.floor_laws.specs.rule.Steps.{end_after};
 ghost use Rattle.task_floor.specs.steps.Committing.{child_row};
 ghost use Rattle.task_floor.specs.steps.inner.Bringing.{frame_after};
 
 use crate::row_phase::enabled_phase;
 use effect_sets::Summary;
-use floor_rule::{Phase, TaskSlot};
-use floor_table::KeptSlot;
-use seg_exec::{Frame, Next, Stop};
+use floor_laws::rule::{Phase, TaskSlot};
+use floor_laws::table::KeptSlot;
 use seg_journal::{End, FaultKind, Limits};
+use seg_meaning::{Frame, Next, Stop};
 use std::alloc::Global;
 use std::mem;
 use twe_base::Ints;

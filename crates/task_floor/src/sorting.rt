@@ -1,10 +1,10 @@
 //! What lies at the nodes of a floor that starts.
 ghost use Rattle.std.specs.Prelude.{◌≡◌, ◌<◌, List, [], Some, length, replicate, slice_get, IfOk, OnOk};
-ghost use Rattle.admission_laws.specs.admission_core.States.{IsAmong, Record};
-ghost use Rattle.floor_rule.specs.nodes.Fitting.{IsDistinct};
+ghost use Rattle.floor_laws.specs.admission.admission_core.States.{IsAmong, Record};
+ghost use Rattle.floor_laws.specs.rule.nodes.Fitting.{IsDistinct};
 ghost use Rattle.task_floor.specs.inner.Recording.{HoldRecords, with_added};
 
-use floor_table::nodes::{NodeContent, NodeRecord};
+use floor_laws::table::nodes::{NodeContent, NodeRecord};
 use std::alloc::Global;
 use twe_base::{List, Memory};
 

@@ -1,12 +1,12 @@
 //! How many workers get stands on one floor.
 ghost use Rattle.std.specs.Prelude.{◌≡◌, []};
-ghost use Rattle.floor_table.specs.declared.view.SeatKind.TheVariants.{Main, Other};
-ghost use Rattle.floor_table.specs.Holds.{HasGivenAll};
-ghost use Rattle.floor_table.specs.nodes.Holds.{HasLeftTree, joined_tree_view, left_tree_view, right_tree_view};
+ghost use Rattle.floor_laws.specs.declared.table.view.SeatKind.TheVariants.{Main, Other};
+ghost use Rattle.floor_laws.specs.table.Holds.{HasGivenAll};
+ghost use Rattle.floor_laws.specs.table.nodes.Holds.{HasLeftTree, joined_tree_view, left_tree_view, right_tree_view};
 
 use crate::floor::{Floor, Stand};
-use floor_table::Named;
-use floor_table::nodes::{BothTreeSeats, NextTreeSeat, Planted};
+use floor_laws::table::Named;
+use floor_laws::table::nodes::{BothTreeSeats, NextTreeSeat, Planted};
 
 impl<N: Named + Planted> Floor<N> {
     /// A stand for the worker with the next number, split off from the main one.

@@ -1,6 +1,6 @@
 //! The order of the slots that a stand has out.
 ghost use Rattle.std.specs.Prelude.{◌≡◌, ℕ, List, ◌∷◌, ◌++◌, [], length};
-ghost use Rattle.floor_table.specs.declared.nodes.slot.TreeSlot as slots;
+ghost use Rattle.floor_laws.specs.declared.table.nodes.slot.TreeSlot as slots;
 
 use crate::floor::Stand;
 

@@ -1,20 +1,20 @@
 //! The turns of tasks.
 ghost use Rattle.std.specs.Prelude.{◌≡◌, ◌≢◌, ◌<◌, ℕ, List, Option, IfOk, IfErr, OnErr};
-ghost use Rattle.floor_rule.specs.declared.view.HeldTurn.{HeldTurn};
-ghost use Rattle.floor_rule.specs.declared.view.TaskSlot.{TaskSlot};
-ghost use Rattle.floor_table.specs.declared.view.SeatKind.TheVariants.{Spent};
+ghost use Rattle.floor_laws.specs.declared.rule.view.HeldTurn.{HeldTurn};
+ghost use Rattle.floor_laws.specs.declared.rule.view.TaskSlot.{TaskSlot};
+ghost use Rattle.floor_laws.specs.declared.table.view.SeatKind.TheVariants.{Spent};
 ghost use Rattle.task_floor.specs.steps.Stands.{holder_in};
-ghost use Rattle.floor_table.specs.declared.nodes.slot.TreeSlot as slots;
-ghost use Rattle.floor_table.specs.declared.nodes.slot.TreeSlot.TheVariants.{Task};
-ghost use Rattle.floor_table.specs.nodes.FloorSeats.{HasTaskSlots};
-ghost use Rattle.floor_table.specs.nodes.TurnSeats.{GaveTreeTurn};
+ghost use Rattle.floor_laws.specs.declared.table.nodes.slot.TreeSlot as slots;
+ghost use Rattle.floor_laws.specs.declared.table.nodes.slot.TreeSlot.TheVariants.{Task};
+ghost use Rattle.floor_laws.specs.table.nodes.FloorSeats.{HasTaskSlots};
+ghost use Rattle.floor_laws.specs.table.nodes.TurnSeats.{GaveTreeTurn};
 ghost use Rattle.task_floor.specs.Alone.{IsNewIfAlone};
 ghost use Rattle.task_floor.specs.Turns.{FoundBusy, HasTakenTask, MayGiveTask};
 
 use crate::floor::{Floor, Stand};
 use crate::steps::Busy;
-use floor_table::nodes::{GiveTreeTurn, Planted, TreeSlot, TryTreeTurn};
-use floor_table::{KeptSlot, Named};
+use floor_laws::table::nodes::{GiveTreeTurn, Planted, TreeSlot, TryTreeTurn};
+use floor_laws::table::{KeptSlot, Named};
 
 /// Whom a turn word names that is not free.
 fn found_busy(word: u64) -> Busy

@@ -1,15 +1,15 @@
 //! How a worker unlocks nodes. Each call has one atomic step.
 ghost use Rattle.std.specs.Prelude.{◌≡◌, ◌<◌, ℕ, List, ◌∷◌, Option, Some, length};
-ghost use Rattle.admission_laws.specs.admission_core.States.{Activity};
-ghost use Rattle.floor_table.specs.declared.nodes.slot.TreeSlot as slots;
-ghost use Rattle.floor_table.specs.nodes.Seats.{GaveNode, MayGoOn, MayStop};
+ghost use Rattle.floor_laws.specs.admission.admission_core.States.{Activity};
+ghost use Rattle.floor_laws.specs.declared.table.nodes.slot.TreeSlot as slots;
+ghost use Rattle.floor_laws.specs.table.nodes.Seats.{GaveNode, MayGoOn, MayStop};
 ghost use Rattle.task_floor.specs.Contents.{HasBehind, HasInHand};
 
 use crate::floor::{Floor, Stand};
 use crate::turning::turn_slots;
 use crate::words::word_left;
-use floor_table::Named;
-use floor_table::nodes::{GoOn, NodeContent, Planted, StopAt};
+use floor_laws::table::Named;
+use floor_laws::table::nodes::{GoOn, NodeContent, Planted, StopAt};
 
 impl<N: Named + Planted> Floor<N> {
     /// Puts its content back into a node, unlocks the node and goes on: the node is the parent of the other that the stand holds,

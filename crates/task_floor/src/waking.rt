@@ -2,10 +2,10 @@
 ghost use Rattle.std.specs.Prelude.{◌≡◌, List, [], IfOk};
 ghost use Rattle.twe_program.specs.WellFormed.{IsWellFormed};
 ghost use Rattle.isolation_laws.specs.soundness.KeepsEffects.{KeepsEffects};
-ghost use Rattle.twe_machine.specs.Runs.{IsRun};
-ghost use Rattle.admission_laws.specs.admission_core.States.{Record};
-ghost use Rattle.floor_rule.specs.nodes.Starts.{AreOfEnabled};
-ghost use Rattle.floor_table.specs.nodes.Holds.{first_tree_view};
+ghost use Rattle.machine_state.specs.Runs.{IsRun};
+ghost use Rattle.floor_laws.specs.admission.admission_core.States.{Record};
+ghost use Rattle.floor_laws.specs.rule.nodes.Starts.{AreOfEnabled};
+ghost use Rattle.floor_laws.specs.table.nodes.Holds.{first_tree_view};
 ghost use Rattle.task_floor.specs.steps.Waking.{log_of};
 
 use crate::floor::{Floor, Stand};
@@ -16,12 +16,13 @@ use crate::recording::records_of;
 use crate::sorting::contents_of;
 use crate::steps::Rest;
 use effect_tree::Shape;
-use floor_table::Named;
-use floor_table::nodes::{Planted, TreeStart};
+use floor_laws::table::Named;
+use floor_laws::table::nodes::{Planted, TreeStart};
+use machine_state::State;
 use seg_journal::{Journal, JournalPart, Limits};
 use std::alloc::Global;
 use twe_base::Memory;
-use twe_machine::{State, start};
+use twe_machine::start;
 use twe_program::Prog;
 
 impl<N: Named + Planted> Floor<N> {

@@ -1,10 +1,10 @@
 //! What the words of the floor mean.
 ghost use Rattle.std.specs.Prelude.{◌≡◌, ◌<◌, ◌^◌, IsFalse, IsTrue};
-ghost use Rattle.floor_table.specs.Layout.{value_of_word, word_of_phase};
-ghost use Rattle.floor_table.specs.nodes.Layout.{decider_at, left_lock, no_decider};
+ghost use Rattle.floor_laws.specs.table.Layout.{value_of_word, word_of_phase};
+ghost use Rattle.floor_laws.specs.table.nodes.Layout.{decider_at, left_lock, no_decider};
 
-use floor_rule::Phase;
-use floor_table::nodes::NodeContent;
+use floor_laws::rule::Phase;
+use floor_laws::table::nodes::NodeContent;
 
 /// The phase that a word stands for.
 pub(crate) fn phase_of(word: u64) -> Phase

@@ -6,8 +6,8 @@ use Rattle.seg_journal.specs.declared.moves.Move.{Move}
 use Rattle.seg_journal.specs.declared.text.JournalText.{JournalText}
 use Rattle.seg_journal.specs.Lines.{IsFirstBadLine}
 use Rattle.seg_journal.specs.Spelling.{Spells, head_lines}
-use Rattle.twe_machine.specs.declared.legal.Why.{Why}
-use Rattle.twe_machine.specs.Replays.{IsFirstIllegal}
+use Rattle.machine_state.specs.declared.why.Why.{Why}
+use Rattle.machine_state.specs.Replays.{IsFirstIllegal}
 use Rattle.twe_frontend.specs.Accepted.{Accepted}
 use Rattle.twe_program.specs.Program.{Program}
 use Rattle.text_answers.specs.Answers.{default_limits, limits_with}

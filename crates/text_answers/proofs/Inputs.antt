@@ -2,7 +2,6 @@
 use Rattle.std.proofs.Common.{◌≡◌, ◌≤◌, ℕ, List, [], length, Result, Ok, Err, IfOk, true, false, refl, sym, subst, true≢false, arith}
 use Rattle.twe_base.specs.declared.memory.Memory as out_of
 use Rattle.twe_base.specs.Language.{max_text_bytes}
-use Rattle.twe_program.specs.Program.{Program}
 use Rattle.twe_frontend.specs.declared.refusal.Refusal.{Refusal}
 use Rattle.twe_frontend.specs.Accepted.{IsRefusal}
 use Rattle.load_text.specs.Text.{load_text_of}
@@ -18,7 +17,6 @@ use Rattle.text_answers.specs.declared.book.Book.{Book}
 use Rattle.text_answers.specs.Answers.{Due}
 use Rattle.text_answers.specs.Causes.{Cause}
 use Rattle.text_answers.specs.Input.{has_input}
-use Rattle.text_answers.specs.Running.{IsDueForProgram}
 use Rattle.text_answers.specs.inner.Given.{IsInputOf}
 
 -- a load has one answer whatever the input
@@ -46,10 +44,3 @@ pub input_was_read : {S : Type 0} (tells : SourceTells S) (cmd : Command) (befor
 input_was_read tells cmd before after (Ok (Given text)) has was = (was.told.2, λ book answer due. Cause.text text has was due)
 input_was_read tells cmd before after (Ok (Failed answer)) has failed = λ book new. Cause.not_read has failed new
 input_was_read tells cmd before after (Err e) has was = tt
-
--- the answer to a run has its cause, if any answer to a run has it
-pub cause_of_run : {S : Type 0} (tells : SourceTells S) (cmd : Command) (before after : S) (p : Program) (book : Book) (made : Result Answer out_of.Memory)
-    → ((later : Book) (answer : Answer) → IsDueForProgram cmd p later answer → Cause tells cmd before after later answer)
-    → IfOk made (IsDueForProgram cmd p book) → IfOk made (Cause tells cmd before after book)
-cause_of_run tells cmd before after p book (Ok answer) cause due = cause book answer due
-cause_of_run tells cmd before after p book (Err e) cause due = tt

@@ -1,3 +1,4 @@
+pub mod Alone
 pub mod Causes
 pub mod Counted
 pub mod Cuts

@@ -1,5 +1,5 @@
--- A command that asks for no workers has one answer to an input.
-use Rattle.std.proofs.Common.{◌≡◌, ◌+◌, ℕ, ℤ, List, length, Option, None, Some, refl, sym, ap, ◌∙◌, subst}
+-- A command that asks for no workers, or for one, has one answer to an input.
+use Rattle.std.proofs.Common.{◌≡◌, ◌≤◌, ◌+◌, ℕ, ℤ, List, length, Option, None, Some, refl, sym, ap, ◌∙◌, subst}
 use Rattle.std.proofs.lemmas.Option.{none-some, same_Some}
 use Rattle.wait_graph.specs.declared.stuck.Edge.{Edge}
 use Rattle.seg_journal.specs.declared.journal.Entry.{Entry}
@@ -11,16 +11,16 @@ use Rattle.twe_base.specs.Limits.{Bounds}
 use Rattle.twe_program.specs.Program.{Program}
 use Rattle.twe_frontend.specs.declared.refusal.Refusal.{Refusal}
 use Rattle.twe_frontend.specs.Accepted.{Accepted, IsRefusal}
-use Rattle.twe_machine.specs.declared.ending.Outcome.{Outcome}
-use Rattle.twe_machine.specs.declared.ending.Outcome.TheVariants.{AllDone, Fault, Stuck, Unfinished}
-use Rattle.twe_machine.specs.declared.legal.Why.{Why}
-use Rattle.twe_machine.specs.declared.state.FirstFault.{FirstFault}
-use Rattle.twe_machine.specs.declared.state.State.{State}
-use Rattle.twe_machine.specs.LowestFirst.{LowestFirst}
-use Rattle.twe_machine.specs.Moves.{start_of}
-use Rattle.twe_machine.specs.Replays.{IsFirstIllegal}
-use Rattle.twe_machine.specs.Runs.{IsOutcome, counted, state_after}
-use Rattle.twe_machine.proofs.replays.Replayed.{never_both, one_first, one_from}
+use Rattle.machine_state.specs.declared.ending.Outcome.{Outcome}
+use Rattle.machine_state.specs.declared.ending.Outcome.TheVariants.{AllDone, Fault, Stuck, Unfinished}
+use Rattle.machine_state.specs.declared.why.Why.{Why}
+use Rattle.machine_state.specs.declared.state.FirstFault.{FirstFault}
+use Rattle.machine_state.specs.declared.state.State.{State}
+use Rattle.machine_state.specs.LowestFirst.{LowestFirst}
+use Rattle.machine_state.specs.Moves.{start_of}
+use Rattle.machine_state.specs.Replays.{IsFirstIllegal}
+use Rattle.machine_state.specs.Runs.{IsOutcome, counted, state_after}
+use Rattle.machine_state.proofs.replays.Replayed.{never_both, one_first, one_from}
 use Rattle.flat_sched.proofs.Holders.{one_cycle}
 use Rattle.twe_report.specs.Texts as texts
 use Rattle.command_line.specs.declared.command.Command.{Command}
@@ -131,8 +131,8 @@ AcceptedAnswer (Load workers n) p input answer =
     (book : Book) × (outcome : Outcome) × (plain : Answer) × HasRun p default_limits workers outcome book × Answers p default_limits book.journal outcome plain
     × (answer ≡ for_load n (state_after p default_limits book.journal) plain)
 
--- two runs without workers have one journal, so one answer
-one_run : (p : Program) (lim : Bounds) (workers : ℕ) (book second : Book) (outcome other : Outcome) (a b : Answer) → workers ≡ 0
+-- two runs by one worker at most have one journal, so one answer
+one_run : (p : Program) (lim : Bounds) (workers : ℕ) (book second : Book) (outcome other : Outcome) (a b : Answer) → workers ≤ 1
     → ((p : Program) (lim : Bounds) (journal other : List Entry) → LowestFirst p lim journal → LowestFirst p lim other → journal ≡ other)
     → HasRun p lim workers outcome book → HasRun p lim workers other second → Answers p lim book.journal outcome a → Answers p lim second.journal other b
     → (book.journal ≡ second.journal) × (a ≡ b)
@@ -144,7 +144,7 @@ module _ (one_program : (text : List ℕ) (p other : Program) → Accepted text 
     (one_refusal : (text : List ℕ) (refusal other : Refusal) → IsRefusal text refusal → IsRefusal text other → refusal ≡ other)
     (not_refused : (text : List ℕ) (p : Program) (refusal : Refusal) → Accepted text p → ¬ IsRefusal text refusal)
     (one_lowest : (p : Program) (lim : Bounds) (journal other : List Entry) → LowestFirst p lim journal → LowestFirst p lim other → journal ≡ other) where
-  one_accepted : (command : Command) (p : Program) (input : List ℕ) (a b : Answer) → workers_of command ≡ 0 → AcceptedAnswer command p input a → AcceptedAnswer command p input b → a ≡ b
+  one_accepted : (command : Command) (p : Program) (input : List ℕ) (a b : Answer) → workers_of command ≤ 1 → AcceptedAnswer command p input a → AcceptedAnswer command p input b → a ≡ b
   one_accepted Check p input a b alone x y = x ∙ sym y
   one_accepted (Run workers lim asked) p input a b alone x y =
       let same = one_run p lim workers x.0 y.0 x.1 y.1 x.2 y.2 alone one_lowest x.3 y.3 x.4 y.4 in
@@ -185,12 +185,12 @@ module _ (one_program : (text : List ℕ) (p other : Program) → Accepted text 
   refused_answer command input r book a is (Due.replayed lim q same accepted answers) = absurd (not_refused (program_text command input) q r accepted is)
 
   -- the second answer, if the text of the first is accepted
-  once_accepted : (command : Command) (input : List ℕ) (p : Program) (book second : Book) (a b : Answer) → workers_of command ≡ 0 → Accepted (program_text command input) p
+  once_accepted : (command : Command) (input : List ℕ) (p : Program) (book second : Book) (a b : Answer) → workers_of command ≤ 1 → Accepted (program_text command input) p
       → Due command input book a → Due command input second b → a ≡ b
   once_accepted command input p book second a b alone accepted due other =
       one_accepted command p input a b alone (accepted_answer command input p book a accepted due) (accepted_answer command input p second b accepted other)
 
-  one_due : (command : Command) (input : List ℕ) (book second : Book) (a b : Answer) → workers_of command ≡ 0 → Due command input book a → Due command input second b → a ≡ b
+  one_due : (command : Command) (input : List ℕ) (book second : Book) (a b : Answer) → workers_of command ≤ 1 → Due command input book a → Due command input second b → a ≡ b
   one_due command input book second a b alone (Due.refused r is has) other = sym (refused_answer command input r second b is other)
   one_due command input book second a b alone (Due.accepted q same accepted has) other =
       once_accepted command input q book second a b alone accepted (Due.accepted q same accepted has) other
@@ -201,5 +201,5 @@ module _ (one_program : (text : List ℕ) (p other : Program) → Accepted text 
   one_due command input book second a b alone (Due.replayed lim q same accepted answers) other =
       once_accepted command input q book second a b alone accepted (Due.replayed lim q same accepted answers) other
 
-  pub one_answer_to : (command : Command) (input : List ℕ) (a b : Answer) → workers_of command ≡ 0 → IsAnswerTo command input a → IsAnswerTo command input b → a ≡ b
+  pub one_answer_to : (command : Command) (input : List ℕ) (a b : Answer) → workers_of command ≤ 1 → IsAnswerTo command input a → IsAnswerTo command input b → a ≡ b
   one_answer_to command input a b alone x y = one_due command input x.0 y.0 a b alone x.1 y.1

@@ -8,9 +8,9 @@ use Rattle.twe_base.specs.Limits.{Bounds}
 use Rattle.twe_program.specs.Program.{Program}
 use Rattle.twe_frontend.specs.declared.refusal.Refusal.{Refusal}
 use Rattle.twe_frontend.specs.Accepted.{Accepted, IsRefusal}
-use Rattle.twe_machine.specs.declared.legal.Why.{Why}
-use Rattle.twe_machine.specs.Replays.{IsFirstIllegal}
-use Rattle.twe_machine.proofs.replays.Replayed.{one_first}
+use Rattle.machine_state.specs.declared.why.Why.{Why}
+use Rattle.machine_state.specs.Replays.{IsFirstIllegal}
+use Rattle.machine_state.proofs.replays.Replayed.{one_first}
 use Rattle.twe_report.specs.Texts.{not_a_move_text, not_legal_text, refusal_text}
 use Rattle.text_answers.specs.Answers.{default_limits, limits_with}
 use Rattle.text_answers.specs.Input.{journal_part, program_part}

@@ -13,14 +13,14 @@ use Rattle.twe_program.specs.Program.{Program}
 use Rattle.twe_program.specs.WellFormed.{IsWellFormed}
 use Rattle.twe_frontend.specs.declared.refusal.Refusal.{Refusal}
 use Rattle.twe_frontend.specs.Accepted.{Accepted, IsRefusal}
-use Rattle.twe_machine.specs.declared.ending.Outcome.{Outcome}
-use Rattle.twe_machine.specs.declared.state.State.{State}
-use Rattle.twe_machine.specs.Moves.{move_result, start_of}
-use Rattle.twe_machine.specs.Runs.{IsOutcome, Legal, LegalFrom, counted, state_after}
-use Rattle.twe_machine.proofs.tasks.Movers.{mover_there}
-use Rattle.twe_machine.proofs.standing.ReachedStands.{start_stands, taken_stands}
-use Rattle.twe_machine.proofs.replays.Replayed.{never_both, one_from}
-use Rattle.twe_machine.proofs.standing.Standing.{Stands}
+use Rattle.machine_state.specs.declared.ending.Outcome.{Outcome}
+use Rattle.machine_state.specs.declared.state.State.{State}
+use Rattle.machine_state.specs.Moves.{move_result, start_of}
+use Rattle.machine_state.specs.Runs.{IsOutcome, Legal, LegalFrom, counted, state_after}
+use Rattle.machine_state.proofs.tasks.Movers.{mover_there}
+use Rattle.machine_state.proofs.standing.ReachedStands.{start_stands, taken_stands}
+use Rattle.machine_state.proofs.replays.Replayed.{never_both, one_from}
+use Rattle.machine_state.proofs.standing.Standing.{Stands}
 use Rattle.twe_report.specs.Texts as texts
 use Rattle.command_line.specs.declared.command.Command.TheVariants.{Run, Replay}
 use Rattle.twe_io.specs.declared.answer.Answer.{Answer}

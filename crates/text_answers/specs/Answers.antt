@@ -10,12 +10,12 @@ use Rattle.twe_base.specs.Limits.{Bounds}
 use Rattle.twe_program.specs.Program.{Program}
 use Rattle.twe_frontend.specs.declared.refusal.Refusal.{Refusal}
 use Rattle.twe_frontend.specs.Accepted.{Accepted, IsRefusal}
-use Rattle.twe_machine.specs.declared.ending.Outcome.{Outcome}
-use Rattle.twe_machine.specs.declared.ending.Outcome.TheVariants as outcomes
-use Rattle.twe_machine.specs.declared.state.State.{State}
-use Rattle.twe_machine.specs.declared.legal.Why.{Why}
-use Rattle.twe_machine.specs.Replays.{IsFirstIllegal}
-use Rattle.twe_machine.specs.Runs.{state_after, counted}
+use Rattle.machine_state.specs.declared.ending.Outcome.{Outcome}
+use Rattle.machine_state.specs.declared.ending.Outcome.TheVariants as outcomes
+use Rattle.machine_state.specs.declared.state.State.{State}
+use Rattle.machine_state.specs.declared.why.Why.{Why}
+use Rattle.machine_state.specs.Replays.{IsFirstIllegal}
+use Rattle.machine_state.specs.Runs.{state_after, counted}
 use Rattle.flat_sched.specs.Stuck.{IsCycleOfReasons, IsStuckCycle}
 use Rattle.twe_report.specs.Texts.{result_text, prints_text, fault_text, stuck_text, unfinished_text}
 use Rattle.twe_report.specs.Texts.{not_a_move_text, not_legal_text, accepted_text, refusal_text}
@@ -89,7 +89,7 @@ pub data Due (command : Command) (text : List ℕ) (book : Book) : Answer → Ty
   -- the text is accepted, and the book has its program
   accepted : (p : Program) → command ≡ Check → Accepted (program_text command text) p → HasProgram p book
       → Due command text book (on_out Done accepted_text)
-  -- the run theorem: the text is accepted, and the book has a run of its program
+  -- the text is accepted, and the book has a run of its program
   ran : (workers : ℕ) (lim : Bounds) (asked : Bool) (p : Program) (outcome : Outcome) (answer : Answer)
       → command ≡ Run workers lim asked → Accepted (program_text command text) p → HasRun p lim workers outcome book
       → AnswersRun p (state_after p lim book.journal) (state_after p lim (counted book.journal)).prints outcome answer
@@ -104,6 +104,13 @@ pub data Due (command : Command) (text : List ℕ) (book : Book) : Answer → Ty
   -- the text is accepted, and its journal text is replayed
   replayed : (lim : Bounds) (p : Program) {answer : Answer} → command ≡ Replay lim → Accepted (program_text command text) p
       → AnswersReplay p lim (journal_text command text) book answer → Due command text book answer
+
+-- the command with no workers; one that asks for no run stays as it is
+abbrev pub without_workers : Command → Command
+without_workers Check = Check
+without_workers (Run workers lim asked) = Run 0 lim asked
+without_workers (Replay lim) = Replay lim
+without_workers (Load workers n) = Load 0 n
 
 -- the answer to a command with this input, apart from the book
 abbrev pub IsAnswerTo : Command → List ℕ → Answer → Type 0

@@ -3,6 +3,7 @@ use Rattle.std.specs.Prelude.{◌≡◌, true, ℕ, List, [], Option, None, Some
 use Rattle.twe_frontend.specs.declared.refusal.Refusal.{Refusal}
 use Rattle.twe_frontend.specs.Accepted.{IsRefusal}
 use Rattle.load_text.specs.Text.{load_text_of}
+use Rattle.command_line.specs.Words.{IsMeaning}
 use Rattle.command_line.specs.declared.command.Command.{Command}
 use Rattle.command_line.specs.declared.command.Command.TheVariants.{Load}
 use Rattle.twe_io.specs.declared.answer.Answer.{Answer}
@@ -21,7 +22,7 @@ pub data Cause {S : Type 0} (tells : SourceTells S) (command : Command) (before 
   -- a read failed, or the source has more bytes than a text may have
   not_read : {answer : Answer} → has_input command ≡ true → FailedRead tells before after answer → IsNew book
       → Cause tells command before after book answer
-  -- The source gave a text, and this is the answer to it. If the text is accepted, the run theorem holds of the book.
+  -- the source gave a text, and this is the answer that is due to it, with this book
   text : {answer : Answer} (bytes : List ℕ) → has_input command ≡ true → WasRead tells before (Ok bytes) after
       → Due command bytes book answer → Cause tells command before after book answer
   -- the command has no input, and nothing is read; its program text is never refused
@@ -42,3 +43,10 @@ abbrev pub Answers : {S O E : Type 0} → EndsTell S O E → List ℕ → Option
     → Status → Type 0
 Answers tells usage command before after book status =
     IsAnswered tells (λ from to answer. CauseOfWords tells.src usage command from to book answer) before after status
+
+-- What a call of a program with this usage line and these words comes to: `Answers`, of the command that the words mean, or of
+-- none.
+abbrev pub AnswersWords : {S O E : Type 0} → EndsTell S O E → List ℕ → List (List ℕ) → Ends S O E → Ends S O E → Book
+    → Status → Type 0
+AnswersWords tells usage words before after book status =
+    (command : Option Command) × IsMeaning words command × Answers tells usage command before after book status

@@ -1,41 +1,37 @@
--- The run that a command asks for, and the answer to it.
-use Rattle.std.specs.Prelude.{◌≡◌, ℕ, List, Option, None, Some}
-use Rattle.seg_journal.specs.declared.journal.Entry.{Entry}
-use Rattle.twe_base.specs.Limits.{Bounds}
+-- The run that a command asks for, and the reply to it.
+use Rattle.std.specs.Prelude.{◌≡◌, ◌≤◌, ℕ, List, Option, None, Some}
 use Rattle.twe_program.specs.Program.{Program}
 use Rattle.twe_frontend.specs.Accepted.{Accepted}
-use Rattle.twe_machine.specs.declared.state.State.{State}
-use Rattle.twe_machine.specs.LowestFirst.{IsOver, LowestFirst}
-use Rattle.twe_machine.specs.Runs.{Legal, state_after}
+use Rattle.machine_state.specs.LowestFirst.{IsOver, LowestFirst}
+use Rattle.machine_state.specs.Runs.{Legal, state_after}
+use Rattle.flat_sched.specs.RunEnds.{IsRunEnd}
+use Rattle.flat_sched.specs.declared.ending.WholeRun.{WholeRun}
 use Rattle.command_line.specs.declared.command.Command.{Command}
 use Rattle.command_line.specs.declared.command.Command.TheVariants.{Check, Run, Replay, Load}
-use Rattle.command_line.specs.Words.{workers_of}
-use Rattle.twe_io.specs.declared.answer.Answer.{Answer}
-use Rattle.text_answers.specs.declared.book.Book.{Book}
+use Rattle.text_answers.specs.declared.asked.AskedRun.{AskedRun}
+use Rattle.text_answers.specs.declared.asked.Report.TheVariants.{OfRun, OfLoad}
+use Rattle.text_answers.specs.declared.book.Reply.{Reply}
 use Rattle.text_answers.specs.Answers.{Due, default_limits}
 use Rattle.text_answers.specs.Input.{program_text}
 
--- the limits of the run that a command asks for, if it asks for one
-abbrev pub limits_to_run : Command → Option Bounds
-limits_to_run Check = None
-limits_to_run (Run workers lim asked) = Some lim
-limits_to_run (Replay lim) = None
-limits_to_run (Load workers n) = Some default_limits
+-- the run that a command asks for, if it asks for one
+abbrev pub asked_of : Command → Option AskedRun
+asked_of Check = None
+asked_of (Run workers lim journal) = Some (record { workers = workers; limits = lim; report = OfRun journal })
+asked_of (Replay lim) = None
+asked_of (Load workers n) = Some (record { workers = workers; limits = default_limits; report = OfLoad n })
 
--- The journal is that of a run of the program which is over and has come to this state. With no workers the journal is the
--- lowest-first one.
-pub record IsWholeRun (p : Program) (lim : Bounds) (workers : ℕ) (journal : List Entry) (st : State) : Type 0 where
-  pub legal : Legal p lim journal
-  pub state : st ≡ state_after p lim journal
-  pub over : IsOver st
-  pub lowest : workers ≡ 0 → LowestFirst p lim journal
+-- This is a run of the program as it is asked for: the run is over, and has ended so. Without workers, or with one, its
+-- journal is the lowest-first one.
+pub record IsWholeRun (p : Program) (asked : AskedRun) (run : WholeRun) : Type 0 where
+  pub legal : Legal p asked.limits run.journal
+  pub state : run.state ≡ state_after p asked.limits run.journal
+  pub over : IsOver run.state
+  pub ends : IsRunEnd run.state run.end
+  pub lowest : asked.workers ≤ 1 → LowestFirst p asked.limits run.journal
 
--- the run is the one that the command asks for
-abbrev pub IsRunFor : Command → Program → List Entry → State → Type 0
-IsRunFor command p journal st =
-    (lim : Bounds) × (limits_to_run command ≡ Some lim) × IsWholeRun p lim (workers_of command) journal st
-
--- the answer to each input whose program text is accepted and has this program
-abbrev pub IsDueForProgram : Command → Program → Book → Answer → Type 0
-IsDueForProgram command p book answer =
-    (input : List ℕ) → Accepted (program_text command input) p → Due command input book answer
+-- the reply to each command that asks for this run and each input whose program text is accepted and has this program
+abbrev pub IsDueForRun : AskedRun → Program → Reply → Type 0
+IsDueForRun asked p reply =
+    (command : Command) (input : List ℕ) → asked_of command ≡ Some asked → Accepted (program_text command input) p
+    → Due command input reply.book reply.answer

@@ -1,9 +1,11 @@
 //! What a call of the program leaves for its caller.
+ghost use Rattle.text_answers.specs.Theorem.{HasProgram, HasRefusal, IsNew};
 
+use machine_state::Outcome;
 use seg_journal::Journal;
 use std::alloc::Global;
 use twe_frontend::Refusal;
-use twe_machine::Outcome;
+use twe_io::Answer;
 use twe_program::Prog;
 
 /// What a call of the program has made: the program that its text means and the journal and outcome of its run, or
@@ -21,9 +23,7 @@ pub struct Book {
 }
 
 impl Book {
-    ghost use Rattle.text_answers.specs.Theorem.{IsNew};
-
-    /// A book in which nothing stands yet. It takes no memory.
+    /// A book in which nothing stands. It takes no memory.
     pub fn new(alloc: Global) -> Book
         ensures { IsNew result }
     {
@@ -34,4 +34,37 @@ impl Book {
             refusal: None,
         }
     }
+
+    /// A book with a program and nothing else.
+    pub(crate) fn of_program(alloc: Global, p: Prog) -> Book
+        ensures { HasProgram p result }
+    {
+        Book {
+            prog: Some(p),
+            journal: Journal::new(alloc),
+            outcome: None,
+            refusal: None,
+        }
+    }
+
+    /// A book with a refusal and nothing else.
+    pub(crate) fn of_refusal(alloc: Global, refusal: Refusal) -> Book
+        ensures { HasRefusal refusal result }
+    {
+        Book {
+            prog: None,
+            journal: Journal::new(alloc),
+            outcome: None,
+            refusal: Some(refusal),
+        }
+    }
+}
+
+/// An answer, and what has led to it.
+#[derive(Debug, Drop)]
+pub struct Reply {
+    /// The answer.
+    pub answer: Answer,
+    /// What has led to it.
+    pub book: Book,
 }

@@ -1,12 +1,13 @@
-//! The part of a journal that counts, up to the first fault, and the numbers that it prints.
-ghost use Rattle.std.specs.Prelude.{◌≡◌, length, map, IfOk};
-ghost use Rattle.seg_journal.specs.Spelling.{move_of};
-ghost use Rattle.twe_machine.specs.Runs.{Legal, counted, state_after};
+//! The part of a journal that counts, up to the first fault, and the numbers that it prints; the lines of a journal text.
+ghost use Rattle.std.specs.Prelude.{◌≡◌, ◌+◌, ◌≤◌, length, IfOk};
+ghost use Rattle.seg_journal.specs.Spelling.{head_lines};
+ghost use Rattle.machine_state.specs.Runs.{Legal, counted, state_after};
 
-use seg_journal::{End, Entry, Moves};
+use machine_state::ReplayFail;
+use seg_journal::{End, Entry, Move, moves_of};
 use std::alloc::Global;
 use twe_base::{Ints, Limits, Memory};
-use twe_machine::{ReplayFail, replay};
+use twe_machine::replay;
 use twe_program::Prog;
 
 /// The number of entries up to the first fault, the fault's entry counted, or of all entries if there is none.
@@ -39,13 +40,14 @@ pub(crate) fn prints_of(
     }
 }
 
-/// The moves of the entries, in order.
-fn moves_of(alloc: Global, entries: &[Entry]) -> Result<Moves, Memory>
-    ensures { IfOk result (λ moves. moves ≡ map move_of entries.now) }
+/// The line of move `n` in a journal text with these moves, both counted from 1.
+pub fn line_of(head: Option<Limits>, n: u64, moves: &[Move]) -> u64
+    requires { n ≤ length moves.now }
+    ensures { result ≡ length (head_lines head) + n }
 {
-    let mut moves = Moves::new(alloc);
-    for entry in entries {
-        moves.push(entry.mv)?;
+    let _lines = moves.len() + 1;
+    match head {
+        None => n,
+        Some(_) => n + 1,
     }
-    Ok(moves)
 }

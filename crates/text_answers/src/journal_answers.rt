@@ -1,18 +1,18 @@
 //! The answer to an input.
-ghost use Rattle.std.specs.Prelude.{◌≡◌, ◌≤◌, ◌+◌, IfOk, length};
-ghost use Rattle.seg_journal.specs.Spelling.{head_lines};
+ghost use Rattle.std.specs.Prelude.{◌≤◌, IfOk, length};
 ghost use Rattle.twe_base.specs.Language.{max_text_bytes};
 ghost use Rattle.text_answers.specs.Due.{JournalDue};
 ghost use Rattle.text_answers.specs.inner.GivenToPrograms.{DueToFound, DueToJournal};
 
+use crate::counting::line_of;
 use crate::cut_input;
 use crate::program::JournalProgram;
-use seg_journal::{JournalFail, JournalText, Limits, Move, read_journal};
+use machine_state::ReplayFail;
+use seg_journal::{JournalFail, JournalText, Limits, read_journal};
 use std::alloc::Global;
 use twe_base::Memory;
 use twe_frontend::{FrontFail, read_program};
 use twe_io::{Answer, Status};
-use twe_machine::ReplayFail;
 use twe_program::Prog;
 use twe_report::{not_a_move_text, not_legal_text, refusal_text};
 
@@ -77,17 +77,5 @@ fn answer_found<P: JournalProgram>(
             not_legal_text(alloc, line_of(found.head, n, moves))?,
         )),
         Err(ReplayFail::OutOfMemory(memory)) => Err(memory),
-    }
-}
-
-/// The line of move `n` in a journal text with these moves, both counted from 1.
-fn line_of(head: Option<Limits>, n: u64, moves: &[Move]) -> u64
-    requires { n ≤ length moves.now }
-    ensures { result ≡ length (head_lines head) + n }
-{
-    let _lines = moves.len() + 1;
-    match head {
-        None => n,
-        Some(_) => n + 1,
     }
 }

@@ -1,11 +1,12 @@
-//! Laws of answers: without workers there is one; journals that are written replay; a deterministic `main` has one result text.
-ghost use Rattle.std.specs.Prelude.{◌≡◌, ◌++◌, ℕ, List, true};
+//! Laws of answers: by one worker at most there is one; journals that are written replay; a deterministic `main` has one result
+//! text.
+ghost use Rattle.std.specs.Prelude.{◌≡◌, ◌≤◌, ◌++◌, ℕ, List, true};
 ghost use Rattle.seg_journal.specs.declared.journal.Entry.{Entry};
 ghost use Rattle.twe_base.specs.Limits.{Bounds, IsWithin};
 ghost use Rattle.twe_program.specs.Program.{Program};
 ghost use Rattle.twe_program.specs.WellFormed.{IsWellFormed};
 ghost use Rattle.twe_frontend.specs.Accepted.{Accepted};
-ghost use Rattle.twe_machine.specs.Runs.{AllTasksDone, state_after};
+ghost use Rattle.machine_state.specs.Runs.{AllTasksDone, state_after};
 ghost use Rattle.determinism_laws.specs.AcceptedRuns.{IsAcceptedRun};
 ghost use Rattle.determinism_laws.specs.results.Main.{MainIsDeterministic};
 ghost use Rattle.twe_report.specs.Texts.{journal_part_text, result_text};
@@ -14,18 +15,20 @@ ghost use Rattle.command_line.specs.declared.command.Command.{Command};
 ghost use Rattle.command_line.specs.declared.command.Command.TheVariants.{Run, Replay};
 ghost use Rattle.twe_io.specs.declared.answer.Answer.{Answer};
 ghost use Rattle.text_answers.specs.declared.book.Book.{Book};
-ghost use Rattle.text_answers.specs.Answers.{Due, IsAnswerTo, with_journal};
+ghost use Rattle.text_answers.specs.Answers.{Due, IsAnswerTo, with_journal, without_workers};
 ghost use Rattle.text_answers.specs.Input.{HasNoMark, ends_line};
 
 use determinism_laws::results::deterministic_mains_have_one_result;
+use machine_state::one_lowest_first;
 use twe_frontend::{one_program, one_refusal, refused_or_accepted};
-use twe_machine::one_lowest_first;
 
-/// A command that asks for no workers has one answer to an input: what is written and the status are a function of the command
-/// and the input, apart from want of memory.
-pub fn one_answer_without_workers()
-    ensures { (command : Command) (input : List ℕ) (answer other : Answer) → workers_of command ≡ 0
+/// A command that asks for no workers, or for one, has one answer to an input: what is written and the status are a function of
+/// the command and the input, apart from want of memory. By one worker the answer is that without workers.
+pub fn one_answer_by_one_worker_at_most()
+    ensures one { (command : Command) (input : List ℕ) (answer other : Answer) → workers_of command ≤ 1
         → IsAnswerTo command input answer → IsAnswerTo command input other → answer ≡ other }
+    ensures alone { (command : Command) (input : List ℕ) (answer other : Answer) → workers_of command ≤ 1
+        → IsAnswerTo command input answer → IsAnswerTo (without_workers command) input other → answer ≡ other }
 {
     one_program();
     one_refusal();

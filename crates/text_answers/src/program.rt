@@ -3,15 +3,15 @@ ghost use Rattle.std.specs.Prelude.{ℕ, List, IfOk, IsErrOf};
 ghost use Rattle.seg_journal.specs.declared.moves.Move.{Move as AnyMove};
 ghost use Rattle.twe_base.specs.Limits.{Bounds};
 ghost use Rattle.twe_io.specs.declared.answer.Answer.{Answer};
-ghost use Rattle.twe_machine.specs.declared.legal.Why.{Why};
-ghost use Rattle.twe_machine.specs.declared.replaying.ReplayFail.TheVariants.{Illegal};
-ghost use Rattle.twe_machine.specs.Replays.{IsFirstIllegal};
+ghost use Rattle.machine_state.specs.declared.why.Why.{Why};
+ghost use Rattle.machine_state.specs.declared.replay_fail.ReplayFail.TheVariants.{Illegal};
+ghost use Rattle.machine_state.specs.Replays.{IsFirstIllegal};
 ghost use Rattle.twe_program.specs.Program.{Program};
 
+use machine_state::ReplayFail;
 use seg_journal::{Limits, Move};
 use std::alloc::Global;
 use twe_io::Answer;
-use twe_machine::ReplayFail;
 use twe_program::Prog;
 
 /// A program that reads a text and a journal.

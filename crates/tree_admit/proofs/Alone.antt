@@ -13,26 +13,26 @@ use Rattle.wait_graph.proofs.ChainLemmas.{Chain-fork, Chain-push, Chain-stays}
 use Rattle.wait_graph.proofs.WaitingLemmas.{WaitsFor-done, WaitsFor-one, YieldsTo-rootless}
 use Rattle.twe_base.specs.Limits.{Bounds}
 use Rattle.twe_program.specs.Program.{Program}
-use Rattle.twe_machine.specs.declared.state.State.{State}
-use Rattle.twe_machine.specs.declared.state.TaskRow.{TaskRow}
-use Rattle.twe_machine.specs.Legal.{Interfere, MayAdmit}
-use Rattle.twe_machine.proofs.tasks.Filled.{reached_filled}
+use Rattle.machine_state.specs.declared.state.State.{State}
+use Rattle.machine_state.specs.declared.state.TaskRow.{TaskRow}
+use Rattle.machine_state.specs.Legal.{Interfere, MayAdmit}
+use Rattle.machine_state.proofs.tasks.Filled.{reached_filled}
 use Rattle.isolation_laws.proofs.admission.Statuses.{reached_made}
-use Rattle.floor_rule.specs.declared.view.HeldTurn.{HeldTurn}
-use Rattle.floor_rule.specs.declared.view.Phase.{Phase}
-use Rattle.floor_rule.specs.declared.view.Phase.TheVariants.{Absent, Made, Running, Waits, Done, Faulted}
-use Rattle.floor_rule.proofs.Puts.{none_some, some_one}
-use Rattle.floor_table.specs.Alone.{IsAloneAt, awaited_by}
-use Rattle.floor_table.specs.FloorOf.{turn_in}
-use Rattle.floor_table.specs.Layout.{word_of_phase}
-use Rattle.floor_table.proofs.Steps.{phase_again}
-use Rattle.floor_table.specs.declared.view.View.{View}
-use Rattle.admission_laws.specs.admission_core.States.{Record}
-use Rattle.admission_laws.proofs.admission_core.EffectLemmas.{filled_among, some_interfere}
-use Rattle.floor_table.specs.declared.nodes.view.TreeView.{TreeView}
-use Rattle.floor_table.specs.nodes.Alone.{LearnsAlone}
-use Rattle.floor_table.specs.nodes.Seats.{TreeSeat}
-use Rattle.floor_table.specs.nodes.TreeOf.{content_in}
+use Rattle.floor_laws.specs.declared.rule.view.HeldTurn.{HeldTurn}
+use Rattle.floor_laws.specs.declared.rule.view.Phase.{Phase}
+use Rattle.floor_laws.specs.declared.rule.view.Phase.TheVariants.{Absent, Made, Running, Waits, Done, Faulted}
+use Rattle.floor_laws.proofs.rule.Puts.{none_some, some_one}
+use Rattle.floor_laws.specs.table.Alone.{IsAloneAt, awaited_by}
+use Rattle.floor_laws.specs.table.FloorOf.{turn_in}
+use Rattle.floor_laws.specs.table.Layout.{word_of_phase}
+use Rattle.floor_laws.proofs.table.Steps.{phase_again}
+use Rattle.floor_laws.specs.declared.table.view.View.{View}
+use Rattle.floor_laws.specs.admission.admission_core.States.{Record}
+use Rattle.floor_laws.proofs.admission.admission_core.EffectLemmas.{filled_among, some_interfere}
+use Rattle.floor_laws.specs.declared.table.nodes.view.TreeView.{TreeView}
+use Rattle.floor_laws.specs.table.nodes.Alone.{LearnsAlone}
+use Rattle.floor_laws.specs.table.nodes.Seats.{TreeSeat}
+use Rattle.floor_laws.specs.table.nodes.TreeOf.{content_in}
 use Rattle.task_floor.proofs.Alone.{alone_still}
 use Rattle.tree_admit.specs.Alone.{FollowedAlone, HasOnlyTurnOf, IsInTheWayIfAlone, LeadsElsewhere, StandsInTheWay}
 use Rattle.tree_admit.specs.Going.{HasOnlyFollowed, HasOnlyLearned}

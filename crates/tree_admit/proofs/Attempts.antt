@@ -10,22 +10,22 @@ use Rattle.effect_sets.specs.declared.effects.Effect.{Effect}
 use Rattle.prefix_tree.specs.Nodes.{IsTreeOfPaths}
 use Rattle.twe_base.specs.Limits.{Bounds}
 use Rattle.twe_program.specs.Program.{Program}
-use Rattle.floor_rule.specs.declared.view.HeldTurn.{HeldTurn}
-use Rattle.floor_table.specs.declared.view.View.{View}
-use Rattle.floor_table.proofs.Added.{grown_then}
-use Rattle.floor_table.specs.FloorOf.{turn_in}
-use Rattle.admission_laws.specs.admission_core.States.{IsAmong, IsPlaceOf, Record}
-use Rattle.admission_laws.proofs.admission_core.EffectLemmas.{one_place}
-use Rattle.floor_rule.specs.nodes.FactSteps.{HasPlacedAll}
-use Rattle.floor_rule.specs.nodes.RecordSteps.{not_clear}
-use Rattle.floor_rule.specs.nodes.TurnSteps.{IsClearOf}
-use Rattle.floor_rule.proofs.nodes.Records.{clear_among}
-use Rattle.floor_table.specs.declared.nodes.slot.Errand.{Errand}
-use Rattle.floor_table.specs.declared.nodes.slot.ErrandKind.{ErrandKind}
-use Rattle.floor_table.specs.declared.nodes.view.TreeView.{TreeView}
-use Rattle.floor_table.specs.nodes.Seats.{TreeSeat, tree_seen, turns_seen}
-use Rattle.floor_table.specs.nodes.Without.{without_record}
-use Rattle.floor_table.proofs.nodes.Withouts.{without_is}
+use Rattle.floor_laws.specs.declared.rule.view.HeldTurn.{HeldTurn}
+use Rattle.floor_laws.specs.declared.table.view.View.{View}
+use Rattle.floor_laws.proofs.table.Added.{grown_then}
+use Rattle.floor_laws.specs.table.FloorOf.{turn_in}
+use Rattle.floor_laws.specs.admission.admission_core.States.{IsAmong, IsPlaceOf, Record}
+use Rattle.floor_laws.proofs.admission.admission_core.EffectLemmas.{one_place}
+use Rattle.floor_laws.specs.rule.nodes.FactSteps.{HasPlacedAll}
+use Rattle.floor_laws.specs.rule.nodes.RecordSteps.{not_clear}
+use Rattle.floor_laws.specs.rule.nodes.TurnSteps.{IsClearOf}
+use Rattle.floor_laws.proofs.rule.nodes.Records.{clear_among}
+use Rattle.floor_laws.specs.declared.table.nodes.slot.Errand.{Errand}
+use Rattle.floor_laws.specs.declared.table.nodes.slot.ErrandKind.{ErrandKind}
+use Rattle.floor_laws.specs.declared.table.nodes.view.TreeView.{TreeView}
+use Rattle.floor_laws.specs.table.nodes.Seats.{TreeSeat, tree_seen, turns_seen}
+use Rattle.floor_laws.specs.table.nodes.Without.{without_record}
+use Rattle.floor_laws.proofs.table.nodes.Withouts.{without_is}
 use Rattle.twe_base.specs.declared.memory.Memory.{Memory}
 use Rattle.tree_admit.specs.declared.admitting.Admittance.{Admittance}
 use Rattle.tree_admit.specs.declared.admitting.Admittance.TheVariants.{Held}

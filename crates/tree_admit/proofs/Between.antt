@@ -2,8 +2,8 @@
 use Rattle.std.proofs.Common.{◌≡◌, ◌+◌, ◌<◌, ◌≤◌, ℕ, zero, suc, List, [], ◌∷◌, length, Some, sym, ap, subst, ◌∙◌, inl, inr, ⊎_elim, arith}
 use Rattle.std.specs.Prelude.{slice_get}
 use Rattle.std.proofs.lemmas.Bool.{cases_eq, cases_lt}
-use Rattle.floor_rule.proofs.Puts.{some_one}
-use Rattle.admission_laws.specs.admission_core.States.{IsAmong, Record}
+use Rattle.floor_laws.proofs.rule.Puts.{some_one}
+use Rattle.floor_laws.specs.admission.admission_core.States.{IsAmong, Record}
 use Rattle.tree_admit.specs.Passing.{EachBetween}
 
 -- those of one stretch and those of the next

@@ -1,16 +1,16 @@
 -- Chains of waits that a seat followed by its looks.
 use Rattle.std.proofs.Common.{◌≡◌, ◌≢◌, ◌<◌, ◌++◌, ℕ, List, ◌∷◌, refl, ap, sym, ◌∙◌}
 use Rattle.twe_base.specs.Limits.{Bounds}
-use Rattle.floor_rule.specs.declared.view.Phase.{Phase}
-use Rattle.floor_rule.specs.declared.view.Phase.TheVariants.{Waits}
-use Rattle.floor_table.specs.Layout.{word_of_phase}
-use Rattle.floor_table.specs.declared.nodes.view.Look.{Look}
-use Rattle.floor_table.specs.declared.nodes.view.Look.TheVariants.{AtPhase}
-use Rattle.floor_table.specs.nodes.Chains.{CameTo, HasFollowedTo, goes_on}
-use Rattle.floor_table.specs.nodes.Follows.{FollowedPhase}
-use Rattle.floor_table.specs.nodes.Seats.{TreeSeat}
-use Rattle.floor_table.proofs.Added.{grown_is, grown_same}
-use Rattle.floor_table.proofs.Steps.{phase_again}
+use Rattle.floor_laws.specs.declared.rule.view.Phase.{Phase}
+use Rattle.floor_laws.specs.declared.rule.view.Phase.TheVariants.{Waits}
+use Rattle.floor_laws.specs.table.Layout.{word_of_phase}
+use Rattle.floor_laws.specs.declared.table.nodes.view.Look.{Look}
+use Rattle.floor_laws.specs.declared.table.nodes.view.Look.TheVariants.{AtPhase}
+use Rattle.floor_laws.specs.table.nodes.Chains.{CameTo, HasFollowedTo, goes_on}
+use Rattle.floor_laws.specs.table.nodes.Follows.{FollowedPhase}
+use Rattle.floor_laws.specs.table.nodes.Seats.{TreeSeat}
+use Rattle.floor_laws.proofs.table.Added.{grown_is, grown_same}
+use Rattle.floor_laws.proofs.table.Steps.{phase_again}
 use Rattle.task_floor.proofs.Looking.{latest_look}
 
 module _ (lim : Bounds) (old : List Look) (before after : TreeSeat) (s u : ℕ) where

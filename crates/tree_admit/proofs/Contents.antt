@@ -2,10 +2,10 @@
 use Rattle.std.proofs.Common.{◌≡◌, ◌≢◌, ◌⊎◌, ◌++◌, ℕ, Bool, true, false, List, [], ◌∷◌, Option, None, Some, if◌then◌else◌, refl, sym, ap, ◌∙◌, inl, inr}
 use Rattle.std.specs.Prelude.{◌==◌}
 use Rattle.std.proofs.lemmas.Bool.Decides.{Decides-eqb}
-use Rattle.admission_laws.specs.admission_core.States.{IsAmong, Record}
-use Rattle.floor_table.specs.declared.nodes.view.ContentChange.{ContentChange}
-use Rattle.floor_table.specs.Added.{HasGrown, IsAdded}
-use Rattle.floor_table.specs.nodes.TreeOf.{content_in}
+use Rattle.floor_laws.specs.admission.admission_core.States.{IsAmong, Record}
+use Rattle.floor_laws.specs.declared.table.nodes.view.ContentChange.{ContentChange}
+use Rattle.floor_laws.specs.table.Added.{HasGrown, IsAdded}
+use Rattle.floor_laws.specs.table.nodes.TreeOf.{content_in}
 
 choose_true : (b : Bool) (x y : Option (List Record)) → b ≡ true → (if b then x else y) ≡ x
 choose_true true x y h = refl

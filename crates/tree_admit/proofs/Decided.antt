@@ -2,17 +2,17 @@
 use Rattle.std.proofs.Common.{◌≡◌, ◌⊎◌, ℕ, zero, suc, List, [], ◌∷◌, length, Option, Some, IsTrue, refl, sym, ap, subst, ◌∙◌, inl, inr, ⊎_elim, arith}
 use Rattle.std.specs.Prelude.{slice_get}
 use Rattle.effect_sets.specs.declared.effects.Effect.{Effect}
-use Rattle.admission_laws.specs.admission_core.States.{Admit, IsAmong, Record}
-use Rattle.floor_rule.specs.nodes.LockSteps.{IsKnownToPass, own, waiting}
-use Rattle.floor_rule.specs.nodes.Trees.{WaitFact}
-use Rattle.floor_rule.proofs.Puts.{some_one}
-use Rattle.floor_table.specs.declared.nodes.view.TreeView.{TreeView}
-use Rattle.floor_table.specs.nodes.Deciders.{AllWaitFor, decided_view, learned_of, led_there}
-use Rattle.floor_table.specs.nodes.Layout.{decider_at}
-use Rattle.floor_table.specs.nodes.Seats.{TreeSeat}
-use Rattle.floor_table.specs.nodes.TreeOf.{content_in}
-use Rattle.floor_table.proofs.Added.{grown_same}
-use Rattle.floor_table.proofs.nodes.Deciders.{led_own, waits_each}
+use Rattle.floor_laws.specs.admission.admission_core.States.{Admit, IsAmong, Record}
+use Rattle.floor_laws.specs.rule.nodes.LockSteps.{IsKnownToPass, own, waiting}
+use Rattle.floor_laws.specs.rule.nodes.Trees.{WaitFact}
+use Rattle.floor_laws.proofs.rule.Puts.{some_one}
+use Rattle.floor_laws.specs.declared.table.nodes.view.TreeView.{TreeView}
+use Rattle.floor_laws.specs.table.nodes.Deciders.{AllWaitFor, decided_view, learned_of, led_there}
+use Rattle.floor_laws.specs.table.nodes.Layout.{decider_at}
+use Rattle.floor_laws.specs.table.nodes.Seats.{TreeSeat}
+use Rattle.floor_laws.specs.table.nodes.TreeOf.{content_in}
+use Rattle.floor_laws.proofs.table.Added.{grown_same}
+use Rattle.floor_laws.proofs.table.nodes.Deciders.{led_own, waits_each}
 use Rattle.task_floor.proofs.Gathered.{among_left, among_right}
 use Rattle.tree_admit.specs.Errands.{AllPass}
 use Rattle.tree_admit.specs.Going.{HasOnlyFollowed, HasOnlyLearned}

@@ -4,10 +4,10 @@ use Rattle.region_paths.specs.declared.elements.Elem.{Elem}
 use Rattle.effect_sets.specs.declared.effects.Effect.{Effect}
 use Rattle.prefix_tree.specs.Nodes.{IsParent, IsTreeOfPaths}
 use Rattle.twe_base.specs.Limits.{Bounds}
-use Rattle.admission_laws.specs.admission_core.States.{Activity, IsAbove, Record, held}
-use Rattle.admission_laws.proofs.admission_core.TreeLemmas.{parent_other}
-use Rattle.floor_table.specs.declared.nodes.slot.Errand.{Errand}
-use Rattle.floor_table.specs.nodes.Seats.{GaveNode, MayStop, TreeSeat, purpose_for}
+use Rattle.floor_laws.specs.admission.admission_core.States.{Activity, IsAbove, Record, held}
+use Rattle.floor_laws.proofs.admission.admission_core.TreeLemmas.{parent_other}
+use Rattle.floor_laws.specs.declared.table.nodes.slot.Errand.{Errand}
+use Rattle.floor_laws.specs.table.nodes.Seats.{GaveNode, MayStop, TreeSeat, purpose_for}
 use Rattle.tree_admit.specs.Going.{HasLeft, HasNode, IsOutside}
 use Rattle.tree_admit.specs.Errands.{AllPass, errand_at}
 use Rattle.tree_admit.specs.Descents.{MayStepDown}

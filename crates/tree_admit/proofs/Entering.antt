@@ -8,19 +8,19 @@ use Rattle.std.proofs.lemmas.Option.{get_or_from_slice_get, slice_get_within}
 use mathlib.Core.Option as core
 use Rattle.region_paths.specs.declared.elements.Elem.{Elem}
 use Rattle.effect_sets.specs.declared.effects.Effect.{Effect}
-use Rattle.floor_rule.specs.declared.view.HeldTurn.{HeldTurn}
-use Rattle.floor_table.specs.FloorOf.{turn_in}
-use Rattle.admission_laws.specs.admission_core.States.{Descends, IsPlaceOf, Stage, Walks, record_effect}
-use Rattle.admission_laws.specs.admission_core.Events.{HasCome}
-use Rattle.floor_rule.specs.nodes.LockSteps.{MaySetOut}
-use Rattle.floor_table.specs.declared.nodes.slot.Errand.{Errand}
-use Rattle.floor_table.specs.declared.nodes.slot.ErrandKind.{ErrandKind}
-use Rattle.floor_table.specs.declared.nodes.slot.ErrandKind.TheVariants.{Admission, Placing, Removal}
-use Rattle.floor_table.specs.declared.nodes.slot.TreeSlot.TheVariants as kinds
-use Rattle.floor_table.specs.declared.nodes.view.TreeView.{TreeView}
-use Rattle.floor_table.specs.nodes.Seats.{MayLock, activity_for, effect_known, enters, errand_of, purpose_for, turns_seen}
+use Rattle.floor_laws.specs.declared.rule.view.HeldTurn.{HeldTurn}
+use Rattle.floor_laws.specs.table.FloorOf.{turn_in}
+use Rattle.floor_laws.specs.admission.admission_core.States.{Descends, IsPlaceOf, Stage, Walks, record_effect}
+use Rattle.floor_laws.specs.admission.admission_core.Events.{HasCome}
+use Rattle.floor_laws.specs.rule.nodes.LockSteps.{MaySetOut}
+use Rattle.floor_laws.specs.declared.table.nodes.slot.Errand.{Errand}
+use Rattle.floor_laws.specs.declared.table.nodes.slot.ErrandKind.{ErrandKind}
+use Rattle.floor_laws.specs.declared.table.nodes.slot.ErrandKind.TheVariants.{Admission, Placing, Removal}
+use Rattle.floor_laws.specs.declared.table.nodes.slot.TreeSlot.TheVariants as kinds
+use Rattle.floor_laws.specs.declared.table.nodes.view.TreeView.{TreeView}
+use Rattle.floor_laws.specs.table.nodes.Seats.{MayLock, activity_for, effect_known, enters, errand_of, purpose_for, turns_seen}
 use Rattle.tree_admit.specs.Going.{IsOutside}
-use Rattle.floor_table.specs.nodes.Seats.{stage_at}
+use Rattle.floor_laws.specs.table.nodes.Seats.{stage_at}
 use Rattle.tree_admit.specs.Errands.{KnowsErrand, MaySetOutFor, errand_at}
 
 -- Coming to a node.

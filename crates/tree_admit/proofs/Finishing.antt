@@ -9,8 +9,8 @@ use Rattle.std.proofs.lemmas.Option.{get_or_from_slice_get, slice_get-get_or}
 use Rattle.region_paths.specs.declared.elements.Elem.{Elem}
 use Rattle.effect_sets.specs.declared.effects.Effect.{Effect}
 use Rattle.prefix_tree.specs.Nodes.{IsParent, IsTreeOfPaths}
-use Rattle.admission_laws.specs.admission_core.States.{IsAbove, IsAmong, IsApartBelow}
-use Rattle.admission_laws.proofs.admission_core.TreeLemmas.{above_refl, over_above, parent_over}
+use Rattle.floor_laws.specs.admission.admission_core.States.{IsAbove, IsAmong, IsApartBelow}
+use Rattle.floor_laws.proofs.admission.admission_core.TreeLemmas.{above_refl, over_above, parent_over}
 use Rattle.tree_admit.proofs.ways.WayLemmas.{siblings}
 use Rattle.tree_admit.specs.ways.Ways.{AreReached}
 use Rattle.tree_admit.specs.Descents.{HasFinishedBelow, NoneBelow}

@@ -3,18 +3,18 @@ use Rattle.std.proofs.Common.{◌≡◌, ◌⊎◌, ℕ, ℤ, Bool, true, false,
 use Rattle.std.specs.Prelude.{◌==◌}
 use Rattle.std.proofs.lemmas.Bool.Decides.{Decides-eqb, not_from_Decides}
 use Rattle.twe_base.specs.Limits.{Bounds}
-use Rattle.floor_rule.specs.declared.view.Phase.{Phase}
-use Rattle.floor_rule.specs.declared.view.Phase.TheVariants.{Absent, Made, Running, Waits, Done, Faulted}
-use Rattle.floor_table.specs.Layout.{phase_of_word, word_of_phase}
-use Rattle.admission_laws.specs.admission_core.States.{IsAmong}
-use Rattle.floor_rule.specs.nodes.Trees.{WaitFact}
-use Rattle.floor_table.proofs.Added.{grown_by, grown_same}
-use Rattle.floor_table.specs.declared.nodes.view.Look.{Look}
-use Rattle.floor_table.specs.declared.nodes.view.Look.TheVariants.{AtPhase}
-use Rattle.floor_table.specs.nodes.Looks.{looked_seat}
-use Rattle.floor_table.specs.nodes.Follows.{FollowedPhase, Learns, done_view, led_on, waits_view}
-use Rattle.floor_table.specs.nodes.Seats.{TreeSeat}
-use Rattle.floor_rule.specs.nodes.FactSteps.{IsKnownToWait}
+use Rattle.floor_laws.specs.declared.rule.view.Phase.{Phase}
+use Rattle.floor_laws.specs.declared.rule.view.Phase.TheVariants.{Absent, Made, Running, Waits, Done, Faulted}
+use Rattle.floor_laws.specs.table.Layout.{phase_of_word, word_of_phase}
+use Rattle.floor_laws.specs.admission.admission_core.States.{IsAmong}
+use Rattle.floor_laws.specs.rule.nodes.Trees.{WaitFact}
+use Rattle.floor_laws.proofs.table.Added.{grown_by, grown_same}
+use Rattle.floor_laws.specs.declared.table.nodes.view.Look.{Look}
+use Rattle.floor_laws.specs.declared.table.nodes.view.Look.TheVariants.{AtPhase}
+use Rattle.floor_laws.specs.table.nodes.Looks.{looked_seat}
+use Rattle.floor_laws.specs.table.nodes.Follows.{FollowedPhase, Learns, done_view, led_on, waits_view}
+use Rattle.floor_laws.specs.table.nodes.Seats.{TreeSeat}
+use Rattle.floor_laws.specs.rule.nodes.FactSteps.{IsKnownToWait}
 use Rattle.tree_admit.specs.Going.{HasOnlyFollowed}
 use Rattle.tree_admit.proofs.Learning.{learned_refl, learned_trans}
 

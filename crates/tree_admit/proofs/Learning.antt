@@ -2,20 +2,20 @@
 use Rattle.std.proofs.Common.{◌≡◌, ◌≢◌, ◌++◌, ℕ, List, Some, refl, sym, ap, subst, ◌∙◌, inl, inr, ⊎_elim}
 use Rattle.twe_base.specs.Limits.{Bounds}
 use Rattle.twe_program.specs.Program.{Program}
-use Rattle.floor_rule.specs.nodes.Trees.{WaitFact}
-use Rattle.floor_table.specs.Added.{HasGrown}
-use Rattle.floor_table.specs.declared.nodes.view.Look.{Look}
-use Rattle.floor_table.specs.nodes.Chains.{HasFollowedTo}
-use Rattle.floor_table.proofs.Added.{added_before, added_then, grown_same, grown_then}
-use Rattle.floor_table.specs.declared.view.View.{View}
-use Rattle.floor_table.specs.declared.nodes.view.TreeView.{TreeView}
-use Rattle.admission_laws.specs.admission_core.States.{IsAmong, Record}
-use Rattle.floor_table.specs.declared.view.SeatKind.{SeatKind}
-use Rattle.floor_table.specs.declared.view.SeatKind.TheVariants.{Spent}
+use Rattle.floor_laws.specs.rule.nodes.Trees.{WaitFact}
+use Rattle.floor_laws.specs.table.Added.{HasGrown}
+use Rattle.floor_laws.specs.declared.table.nodes.view.Look.{Look}
+use Rattle.floor_laws.specs.table.nodes.Chains.{HasFollowedTo}
+use Rattle.floor_laws.proofs.table.Added.{added_before, added_then, grown_same, grown_then}
+use Rattle.floor_laws.specs.declared.table.view.View.{View}
+use Rattle.floor_laws.specs.declared.table.nodes.view.TreeView.{TreeView}
+use Rattle.floor_laws.specs.admission.admission_core.States.{IsAmong, Record}
+use Rattle.floor_laws.specs.declared.table.view.SeatKind.{SeatKind}
+use Rattle.floor_laws.specs.declared.table.view.SeatKind.TheVariants.{Spent}
 use Rattle.effect_sets.specs.declared.effects.Effect.{Effect}
-use Rattle.floor_rule.specs.nodes.LockSteps.{IsKnownToPass, apart, own, waiting}
+use Rattle.floor_laws.specs.rule.nodes.LockSteps.{IsKnownToPass, apart, own, waiting}
 use Rattle.tree_admit.specs.declared.bars.Bar.{Bar}
-use Rattle.floor_rule.specs.nodes.FactSteps.{IsKnownToWait}
+use Rattle.floor_laws.specs.rule.nodes.FactSteps.{IsKnownToWait}
 use Rattle.tree_admit.specs.Bars.{IsBarIn, IsBarOf, WasBarred}
 use Rattle.tree_admit.specs.Going.{HasOnlyLearned}
 use Rattle.tree_admit.specs.inner.Served.{HasOnlyServed}

@@ -5,22 +5,22 @@ use Rattle.region_paths.specs.declared.elements.Elem.{Elem}
 use Rattle.effect_sets.specs.declared.effects.Effect.{Effect}
 use Rattle.effect_tree.specs.Place.{IsSolid}
 use Rattle.twe_base.specs.Limits.{Bounds}
-use Rattle.twe_machine.specs.declared.state.TaskStatus.TheVariants as status
-use Rattle.floor_rule.specs.declared.view.HeldTurn.{HeldTurn}
-use Rattle.floor_table.specs.FloorOf.{turn_in}
-use Rattle.floor_table.specs.declared.view.View.{View}
-use Rattle.admission_laws.specs.admission_core.States.{Activity, Admit, Child, IsAmong, Record, Remove, Walks}
-use Rattle.admission_laws.specs.admission_core.Events.{AllFinishedOrApart}
-use Rattle.floor_rule.specs.nodes.FactSteps.{FindsClear}
-use Rattle.floor_rule.specs.nodes.LockSteps.{stopped}
-use Rattle.floor_rule.specs.nodes.RecordSteps.{IsWithout, not_clear, record_here}
-use Rattle.floor_table.specs.declared.nodes.slot.TreeSlot.{TreeSlot}
-use Rattle.floor_table.specs.declared.nodes.view.TreeView.{TreeView}
-use Rattle.floor_table.proofs.Added.{grown_by, grown_then}
-use Rattle.floor_table.specs.nodes.RecordSeats.{MayMark, MayUnmark, clear_view, marked_view, marks, marks_child, record_about, record_task, unmarked_view}
-use Rattle.floor_table.specs.nodes.Seats.{TreeSeat, tree_seen, turns_seen}
-use Rattle.floor_table.specs.nodes.Without.{without_record}
-use Rattle.floor_table.proofs.nodes.Withouts.{without_is}
+use Rattle.machine_state.specs.declared.state.TaskStatus.TheVariants as status
+use Rattle.floor_laws.specs.declared.rule.view.HeldTurn.{HeldTurn}
+use Rattle.floor_laws.specs.table.FloorOf.{turn_in}
+use Rattle.floor_laws.specs.declared.table.view.View.{View}
+use Rattle.floor_laws.specs.admission.admission_core.States.{Activity, Admit, Child, IsAmong, Record, Remove, Walks}
+use Rattle.floor_laws.specs.admission.admission_core.Events.{AllFinishedOrApart}
+use Rattle.floor_laws.specs.rule.nodes.FactSteps.{FindsClear}
+use Rattle.floor_laws.specs.rule.nodes.LockSteps.{stopped}
+use Rattle.floor_laws.specs.rule.nodes.RecordSteps.{IsWithout, not_clear, record_here}
+use Rattle.floor_laws.specs.declared.table.nodes.slot.TreeSlot.{TreeSlot}
+use Rattle.floor_laws.specs.declared.table.nodes.view.TreeView.{TreeView}
+use Rattle.floor_laws.proofs.table.Added.{grown_by, grown_then}
+use Rattle.floor_laws.specs.table.nodes.RecordSeats.{MayMark, MayUnmark, clear_view, marked_view, marks, marks_child, record_about, record_task, unmarked_view}
+use Rattle.floor_laws.specs.table.nodes.Seats.{TreeSeat, tree_seen, turns_seen}
+use Rattle.floor_laws.specs.table.nodes.Without.{without_record}
+use Rattle.floor_laws.proofs.table.nodes.Withouts.{without_is}
 use Rattle.tree_admit.specs.Going.{HasNode, HasOnlyLearned}
 use Rattle.tree_admit.specs.Errands.{AllPass, with_clear, with_placed, with_removed}
 use Rattle.tree_admit.proofs.Contents.{content_else, content_here}

@@ -3,17 +3,17 @@ use Rattle.std.proofs.Common.{ℕ, List, sym, ap, subst, ◌∙◌, inl, inr}
 use Rattle.region_paths.specs.declared.elements.Elem.{Elem}
 use Rattle.effect_sets.specs.declared.effects.Effect.{Effect}
 use Rattle.twe_base.specs.Limits.{Bounds}
-use Rattle.floor_rule.specs.declared.view.HeldTurn.{HeldTurn}
-use Rattle.floor_table.specs.declared.view.View.{View}
-use Rattle.floor_table.specs.FloorOf.{turn_in}
-use Rattle.admission_laws.specs.admission_core.States.{IsAmong, Record}
-use Rattle.floor_rule.specs.nodes.FactSteps.{IsToPlace}
-use Rattle.floor_table.specs.declared.nodes.slot.Errand.{Errand}
-use Rattle.floor_table.specs.declared.nodes.slot.ErrandKind.{ErrandKind}
-use Rattle.floor_table.specs.declared.nodes.slot.ErrandKind.TheVariants.{Admission, Placing, Removal}
-use Rattle.floor_table.specs.declared.nodes.slot.TreeSlot.{TreeSlot}
-use Rattle.floor_table.specs.declared.nodes.view.TreeView.{TreeView}
-use Rattle.floor_table.specs.nodes.Seats.{HasOwn, TreeSeat}
+use Rattle.floor_laws.specs.declared.rule.view.HeldTurn.{HeldTurn}
+use Rattle.floor_laws.specs.declared.table.view.View.{View}
+use Rattle.floor_laws.specs.table.FloorOf.{turn_in}
+use Rattle.floor_laws.specs.admission.admission_core.States.{IsAmong, Record}
+use Rattle.floor_laws.specs.rule.nodes.FactSteps.{IsToPlace}
+use Rattle.floor_laws.specs.declared.table.nodes.slot.Errand.{Errand}
+use Rattle.floor_laws.specs.declared.table.nodes.slot.ErrandKind.{ErrandKind}
+use Rattle.floor_laws.specs.declared.table.nodes.slot.ErrandKind.TheVariants.{Admission, Placing, Removal}
+use Rattle.floor_laws.specs.declared.table.nodes.slot.TreeSlot.{TreeSlot}
+use Rattle.floor_laws.specs.declared.table.nodes.view.TreeView.{TreeView}
+use Rattle.floor_laws.specs.table.nodes.Seats.{HasOwn, TreeSeat}
 use Rattle.tree_admit.specs.Descents.{MayPut, MayPutFor}
 use Rattle.tree_admit.specs.Errands.{MaySetOutFor, record_of}
 use Rattle.tree_admit.specs.Going.{HasOnlyLearned}

@@ -5,16 +5,16 @@ use Rattle.std.proofs.lemmas.Bool.{eqb-true, not-true, or_cases}
 use Rattle.effect_sets.specs.declared.effects.Effect.{Effect}
 use Rattle.effect_sets.specs.Interference.{statically_interferes}
 use Rattle.twe_base.specs.Limits.{Bounds}
-use Rattle.floor_rule.specs.declared.view.Phase.TheVariants.{Waits}
-use Rattle.floor_table.specs.Layout.{word_of_phase}
-use Rattle.admission_laws.specs.admission_core.States.{Record}
-use Rattle.floor_rule.specs.nodes.LockSteps.{IsKnownToPass, apart, own, waiting}
-use Rattle.floor_rule.specs.nodes.Trees.{WaitFact}
-use Rattle.floor_table.specs.declared.nodes.view.TreeView.{TreeView}
-use Rattle.floor_table.specs.nodes.Follows.{FollowedPhase}
-use Rattle.floor_table.specs.nodes.Seats.{TreeSeat}
+use Rattle.floor_laws.specs.declared.rule.view.Phase.TheVariants.{Waits}
+use Rattle.floor_laws.specs.table.Layout.{word_of_phase}
+use Rattle.floor_laws.specs.admission.admission_core.States.{Record}
+use Rattle.floor_laws.specs.rule.nodes.LockSteps.{IsKnownToPass, apart, own, waiting}
+use Rattle.floor_laws.specs.rule.nodes.Trees.{WaitFact}
+use Rattle.floor_laws.specs.declared.table.nodes.view.TreeView.{TreeView}
+use Rattle.floor_laws.specs.table.nodes.Follows.{FollowedPhase}
+use Rattle.floor_laws.specs.table.nodes.Seats.{TreeSeat}
 use Rattle.tree_admit.proofs.ways.ApartLemmas.{apart_effects}
-use Rattle.floor_rule.specs.nodes.FactSteps.{IsKnownToWait}
+use Rattle.floor_laws.specs.rule.nodes.FactSteps.{IsKnownToWait}
 use Rattle.tree_admit.specs.Going.{HasOnlyLearned}
 use Rattle.tree_admit.specs.Passing.{EachBetween, EaseOrWaits, OwnOrWaits, is_at_ease, is_own_or_meets, is_passed_over}
 use Rattle.tree_admit.proofs.Between.{both_between}

@@ -4,18 +4,18 @@ use Rattle.std.specs.List.{list_any}
 use Rattle.region_paths.specs.declared.elements.Elem.{Elem}
 use Rattle.effect_sets.specs.declared.effects.Effect.{Effect}
 use Rattle.twe_base.specs.Limits.{Bounds}
-use Rattle.admission_laws.specs.admission_core.States.{Activity, IsAmong, Purpose, Record, Stage}
-use Rattle.floor_rule.specs.nodes.FactSteps.{FindsClear}
-use Rattle.floor_rule.specs.nodes.LockSteps.{stopped}
-use Rattle.floor_table.specs.declared.nodes.slot.Errand.{Errand}
-use Rattle.floor_table.specs.declared.nodes.slot.ErrandKind.{ErrandKind}
-use Rattle.floor_table.specs.declared.nodes.slot.ErrandKind.TheVariants.{Admission, Placing, Removal}
-use Rattle.floor_table.specs.declared.nodes.slot.TreeSlot.{TreeSlot}
-use Rattle.floor_table.specs.declared.nodes.view.TreeView.{TreeView}
-use Rattle.floor_table.specs.nodes.RecordSeats.{MayMark, MayUnmark, clear_view, marked_view, record_about, record_task, unmarked_view}
-use Rattle.floor_table.specs.nodes.Seats.{MayStop, TreeSeat, purpose_for, tree_seen, turns_seen}
-use Rattle.floor_table.specs.nodes.Without.{same_record, without_record}
-use Rattle.floor_table.proofs.nodes.Contents.{found_among}
+use Rattle.floor_laws.specs.admission.admission_core.States.{Activity, IsAmong, Purpose, Record, Stage}
+use Rattle.floor_laws.specs.rule.nodes.FactSteps.{FindsClear}
+use Rattle.floor_laws.specs.rule.nodes.LockSteps.{stopped}
+use Rattle.floor_laws.specs.declared.table.nodes.slot.Errand.{Errand}
+use Rattle.floor_laws.specs.declared.table.nodes.slot.ErrandKind.{ErrandKind}
+use Rattle.floor_laws.specs.declared.table.nodes.slot.ErrandKind.TheVariants.{Admission, Placing, Removal}
+use Rattle.floor_laws.specs.declared.table.nodes.slot.TreeSlot.{TreeSlot}
+use Rattle.floor_laws.specs.declared.table.nodes.view.TreeView.{TreeView}
+use Rattle.floor_laws.specs.table.nodes.RecordSeats.{MayMark, MayUnmark, clear_view, marked_view, record_about, record_task, unmarked_view}
+use Rattle.floor_laws.specs.table.nodes.Seats.{MayStop, TreeSeat, purpose_for, tree_seen, turns_seen}
+use Rattle.floor_laws.specs.table.nodes.Without.{same_record, without_record}
+use Rattle.floor_laws.proofs.table.nodes.Contents.{found_among}
 use Rattle.tree_admit.specs.Going.{HasNode}
 use Rattle.tree_admit.specs.Errands.{AllPass, KnowsErrand, errand_at, record_of, with_clear, with_placed, with_removed}
 use Rattle.tree_admit.specs.Descents.{MayPutFor, MayTakeOutOf, walking}

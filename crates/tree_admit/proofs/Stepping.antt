@@ -5,20 +5,20 @@ use Rattle.region_paths.specs.declared.elements.Elem.{Elem}
 use Rattle.effect_sets.specs.declared.effects.Effect.{Effect}
 use Rattle.twe_base.specs.Limits.{Bounds}
 use Rattle.twe_program.specs.Program.{Program}
-use Rattle.admission_laws.specs.admission_core.States.{Activity, Record, Steps}
-use Rattle.floor_table.specs.declared.nodes.slot.TreeSlot.{TreeSlot}
-use Rattle.floor_table.specs.declared.nodes.slot.TreeSlot.TheVariants as kinds
-use Rattle.floor_table.specs.declared.nodes.view.TreeView.{TreeView}
-use Rattle.floor_table.specs.Added.{HasGrown, IsAdded}
-use Rattle.floor_table.proofs.Added.{added_then, grown_by, grown_same}
-use Rattle.floor_table.specs.nodes.Layout.{content_place}
-use Rattle.floor_table.specs.nodes.TreeOf.{content_in}
-use Rattle.floor_table.specs.nodes.Seats.{GaveNode, MayGoOn, MayLock, TreeSeat, unlocked_view}
+use Rattle.floor_laws.specs.admission.admission_core.States.{Activity, Record, Steps}
+use Rattle.floor_laws.specs.declared.table.nodes.slot.TreeSlot.{TreeSlot}
+use Rattle.floor_laws.specs.declared.table.nodes.slot.TreeSlot.TheVariants as kinds
+use Rattle.floor_laws.specs.declared.table.nodes.view.TreeView.{TreeView}
+use Rattle.floor_laws.specs.table.Added.{HasGrown, IsAdded}
+use Rattle.floor_laws.proofs.table.Added.{added_then, grown_by, grown_same}
+use Rattle.floor_laws.specs.table.nodes.Layout.{content_place}
+use Rattle.floor_laws.specs.table.nodes.TreeOf.{content_in}
+use Rattle.floor_laws.specs.table.nodes.Seats.{GaveNode, MayGoOn, MayLock, TreeSeat, unlocked_view}
 use Rattle.task_floor.specs.Contents.{HasBehind, HasInHand}
 use Rattle.tree_admit.specs.declared.bars.Bar.{Bar}
 use Rattle.tree_admit.specs.Bars.{IsBarIn, WasBarred}
 use Rattle.tree_admit.specs.Going.{HasLocked, HasNode, HasOnlyLearned}
-use Rattle.floor_table.specs.nodes.Seats.{stage_at}
+use Rattle.floor_laws.specs.table.nodes.Seats.{stage_at}
 use Rattle.tree_admit.specs.Descents.{MayStepDown}
 use Rattle.tree_admit.proofs.Alone.{learned_served}
 use Rattle.tree_admit.proofs.Contents.{content_added}

@@ -7,16 +7,16 @@ use Rattle.effect_sets.specs.declared.effects.Effect.{Effect}
 use Rattle.effect_tree.specs.Place.{IsSolid}
 use Rattle.prefix_tree.specs.Nodes.{IsParent}
 use Rattle.twe_base.specs.Limits.{Bounds}
-use Rattle.admission_laws.specs.admission_core.States.{Activity, Admit, Descends, IsAbove, IsAmong, Record, Stage, Steps, Walks, held, record_effect}
-use Rattle.admission_laws.specs.admission_core.Events.{AllFinishedOrApart, HasCome}
-use Rattle.floor_rule.specs.nodes.LockSteps.{SeesPass}
-use Rattle.floor_table.specs.declared.nodes.slot.TreeSlot.{TreeSlot}
-use Rattle.floor_table.specs.declared.nodes.slot.TreeSlot.TheVariants as kinds
-use Rattle.floor_table.specs.declared.nodes.view.TreeView.{TreeView}
-use Rattle.floor_table.proofs.Added.{grown_by, grown_then}
-use Rattle.floor_table.specs.nodes.Layout.{content_place}
-use Rattle.floor_table.specs.nodes.Seats.{GaveNode, MayGoOn, MayLock, MayStop, TreeSeat, gives_parent, goes_down, left_to_give, locked_view, passed_view, tree_seen, unlocked_view, walks_down, walks_up}
-use Rattle.floor_table.specs.nodes.TreeOf.{content_in}
+use Rattle.floor_laws.specs.admission.admission_core.States.{Activity, Admit, Descends, IsAbove, IsAmong, Record, Stage, Steps, Walks, held, record_effect}
+use Rattle.floor_laws.specs.admission.admission_core.Events.{AllFinishedOrApart, HasCome}
+use Rattle.floor_laws.specs.rule.nodes.LockSteps.{SeesPass}
+use Rattle.floor_laws.specs.declared.table.nodes.slot.TreeSlot.{TreeSlot}
+use Rattle.floor_laws.specs.declared.table.nodes.slot.TreeSlot.TheVariants as kinds
+use Rattle.floor_laws.specs.declared.table.nodes.view.TreeView.{TreeView}
+use Rattle.floor_laws.proofs.table.Added.{grown_by, grown_then}
+use Rattle.floor_laws.specs.table.nodes.Layout.{content_place}
+use Rattle.floor_laws.specs.table.nodes.Seats.{GaveNode, MayGoOn, MayLock, MayStop, TreeSeat, gives_parent, goes_down, left_to_give, locked_view, passed_view, tree_seen, unlocked_view, walks_down, walks_up}
+use Rattle.floor_laws.specs.table.nodes.TreeOf.{content_in}
 use Rattle.tree_admit.specs.Going.{HasLeft, HasLocked, HasNode, HasOnlyFollowed, HasOnlyLearned}
 use Rattle.tree_admit.specs.Errands.{AllPass}
 use Rattle.tree_admit.proofs.Contents.{content_else, content_here}

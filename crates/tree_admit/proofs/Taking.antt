@@ -1,12 +1,12 @@
 -- Who has locked a node and taken its content out of its slot has it in hand.
 use Rattle.std.proofs.Common.{◌≡◌, ℕ, List, ◌∷◌, Some, None, sym, ap, subst, ◌∙◌}
 use Rattle.twe_base.specs.Limits.{Bounds}
-use Rattle.floor_rule.proofs.Puts.{some_one}
-use Rattle.admission_laws.specs.admission_core.States.{Activity, Record}
-use Rattle.floor_table.specs.declared.nodes.slot.TreeSlot.TheVariants as kinds
-use Rattle.floor_table.specs.nodes.Layout.{content_place}
-use Rattle.floor_table.specs.nodes.Seats.{HasContent, HasOwn, TookNode, TreeSeat, locked_view}
-use Rattle.floor_table.specs.nodes.TreeOf.{content_in}
+use Rattle.floor_laws.proofs.rule.Puts.{some_one}
+use Rattle.floor_laws.specs.admission.admission_core.States.{Activity, Record}
+use Rattle.floor_laws.specs.declared.table.nodes.slot.TreeSlot.TheVariants as kinds
+use Rattle.floor_laws.specs.table.nodes.Layout.{content_place}
+use Rattle.floor_laws.specs.table.nodes.Seats.{HasContent, HasOwn, TookNode, TreeSeat, locked_view}
+use Rattle.floor_laws.specs.table.nodes.TreeOf.{content_in}
 use Rattle.task_floor.specs.Contents.{HasTakenContent}
 use Rattle.tree_admit.specs.Going.{HasLocked}
 use Rattle.tree_admit.proofs.Contents.{content_here}

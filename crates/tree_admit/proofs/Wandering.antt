@@ -8,16 +8,16 @@ use Rattle.effect_sets.specs.declared.effects.Effect.{Effect}
 use Rattle.effect_tree.specs.Place.{IsSolid}
 use Rattle.prefix_tree.specs.Nodes.{IsParent, IsTreeOfPaths}
 use Rattle.twe_base.specs.Limits.{Bounds}
-use Rattle.admission_laws.specs.admission_core.States.{Activity, Admit, Child, Remove, ActivityIsOver, Leaves, Purpose, Record}
-use Rattle.admission_laws.proofs.admission_core.TreeLemmas.{over_above, parent_other, parent_over}
-use Rattle.admission_laws.specs.admission_core.Events.{AllFinishedOrApart}
-use Rattle.floor_table.specs.declared.nodes.slot.Errand.{Errand}
-use Rattle.floor_table.specs.declared.nodes.slot.ErrandKind.{ErrandKind}
-use Rattle.floor_table.specs.declared.nodes.slot.ErrandKind.TheVariants.{Admission}
-use Rattle.floor_table.specs.declared.nodes.slot.TreeSlot.{TreeSlot}
-use Rattle.floor_table.specs.declared.nodes.view.TreeView.{TreeView}
-use Rattle.floor_table.specs.nodes.Seats.{GaveNode, MayGoOn, MayLock, MayPass, MayStop, TreeSeat, passed_view, left_to_give, purpose_for, unlocked_view}
-use Rattle.floor_table.specs.nodes.TreeOf.{content_in}
+use Rattle.floor_laws.specs.admission.admission_core.States.{Activity, Admit, Child, Remove, ActivityIsOver, Leaves, Purpose, Record}
+use Rattle.floor_laws.proofs.admission.admission_core.TreeLemmas.{over_above, parent_other, parent_over}
+use Rattle.floor_laws.specs.admission.admission_core.Events.{AllFinishedOrApart}
+use Rattle.floor_laws.specs.declared.table.nodes.slot.Errand.{Errand}
+use Rattle.floor_laws.specs.declared.table.nodes.slot.ErrandKind.{ErrandKind}
+use Rattle.floor_laws.specs.declared.table.nodes.slot.ErrandKind.TheVariants.{Admission}
+use Rattle.floor_laws.specs.declared.table.nodes.slot.TreeSlot.{TreeSlot}
+use Rattle.floor_laws.specs.declared.table.nodes.view.TreeView.{TreeView}
+use Rattle.floor_laws.specs.table.nodes.Seats.{GaveNode, MayGoOn, MayLock, MayPass, MayStop, TreeSeat, passed_view, left_to_give, purpose_for, unlocked_view}
+use Rattle.floor_laws.specs.table.nodes.TreeOf.{content_in}
 use Rattle.tree_admit.specs.ways.Ways.{AreReached}
 use Rattle.tree_admit.specs.Going.{HasLeft, HasLocked, HasNode, HasOnlyFollowed, HasOnlyLearned}
 use Rattle.tree_admit.specs.Errands.{AllPass}

@@ -1,20 +1,34 @@
--- What a seat has to know before a call on all effects of a task, and what holds after it.
+-- Calls on all effects of a task, one errand for each: to admit the task, to place its records when it is made, and to take them
+-- out. What a seat has to know before such a call, and what holds after it.
+--
+-- For example task 7 has two effects, number 0 with its place at node 3 and number 1 with its place at node 5, and a worker took its
+-- turn:
+--
+-- * It may try to admit the task (`MayTryToAdmit`). No record of task 7 stands (`HasPlacedNone`).
+-- * After the first errand the record of effect 0 stands at node 3 (`HasPlacedFirst`, for k = 1).
+-- * On the second errand a record of task 2 is in the way. The call has stopped: one record was placed, and the bar is of task 2
+--   (`HasStopped`).
+-- * The record at node 3 is taken out again (`HasTakenOutFirst`, for k = 1), and no record of task 7 stands.
+-- * Without the bar the record of effect 1 would stand at node 5 too (`HasPlacedFirst`, for k = 2), and so each effect would have
+--   its record (`HasPlacedEach`).
+--
+-- All along, nothing is lost that the seat knew of other tasks (`KeepsAllElse`).
 use Rattle.std.specs.Prelude.{◌≡◌, ◌≢◌, ◌⊎◌, ◌↔◌, ◌<◌, ℕ, true, false, List, None, Some, Contains, is_some, length, slice_get}
 use Rattle.region_paths.specs.declared.elements.Elem.{Elem}
 use Rattle.effect_sets.specs.declared.effects.Effect.{Effect}
-use Rattle.twe_machine.specs.declared.state.TaskStatus.TheVariants as status
-use Rattle.floor_rule.specs.declared.view.DoneFact.{DoneFact}
-use Rattle.floor_rule.specs.declared.view.HeldTurn.{HeldTurn}
+use Rattle.machine_state.specs.declared.state.TaskStatus.TheVariants as status
+use Rattle.floor_laws.specs.declared.rule.view.DoneFact.{DoneFact}
+use Rattle.floor_laws.specs.declared.rule.view.HeldTurn.{HeldTurn}
 use Rattle.twe_base.specs.Limits.{Bounds}
 use Rattle.twe_program.specs.Program.{Program}
-use Rattle.floor_table.specs.Added.{HasGrown}
-use Rattle.floor_table.specs.FloorOf.{turn_in}
-use Rattle.admission_laws.specs.admission_core.States.{IsAmong, IsPlaceOf, Record}
-use Rattle.floor_rule.specs.nodes.Trees.{WaitFact}
-use Rattle.floor_table.specs.declared.nodes.slot.ErrandKind.{ErrandKind}
-use Rattle.floor_table.specs.declared.nodes.slot.ErrandKind.TheVariants.{Admission}
-use Rattle.floor_table.specs.declared.nodes.view.TreeView.{TreeView}
-use Rattle.floor_table.specs.nodes.Seats.{TreeSeat}
+use Rattle.floor_laws.specs.table.Added.{HasGrown}
+use Rattle.floor_laws.specs.table.FloorOf.{turn_in}
+use Rattle.floor_laws.specs.admission.admission_core.States.{IsAmong, IsPlaceOf, Record}
+use Rattle.floor_laws.specs.rule.nodes.Trees.{WaitFact}
+use Rattle.floor_laws.specs.declared.table.nodes.slot.ErrandKind.{ErrandKind}
+use Rattle.floor_laws.specs.declared.table.nodes.slot.ErrandKind.TheVariants.{Admission}
+use Rattle.floor_laws.specs.declared.table.nodes.view.TreeView.{TreeView}
+use Rattle.floor_laws.specs.table.nodes.Seats.{TreeSeat}
 use Rattle.tree_admit.specs.declared.bars.Bar.{Bar}
 use Rattle.tree_admit.specs.declared.placing.Obstacle.{Obstacle}
 use Rattle.tree_admit.specs.declared.placing.Obstacle.TheVariants.{InTheWay, NoMemory}
@@ -25,18 +39,18 @@ use Rattle.tree_admit.specs.Going.{HasLeft, IsOutside}
 use Rattle.tree_admit.specs.Descents.{IsOfChild}
 use Rattle.tree_admit.specs.Outcomes.{HasPlaced}
 
--- Before.
+-- What a seat has to know before a call.
 
--- a seat with this view has this turn of task t, which has these effects
+-- the seat has this turn of task t, which has these effects
 pub record HasTurnWith (v : TreeView) (t : ℕ) (effects : List Effect) (turn : HeldTurn) : Type 0 where
   pub has : turn_in v.floor.turns t ≡ Some turn
   pub its : turn.row.effects.effects ≡ effects
 
--- no record of task t is one that the seat has placed and not removed
+-- no record of task t stands that the seat has placed
 abbrev pub HasPlacedNone : TreeView → ℕ → Type 0
 HasPlacedNone v t = (r : Record) → IsAmong r v.fresh → r.task ≢ t
 
--- the seat took the turn of task t, which is still to be admitted, and has placed no record of it
+-- to admit task t: the seat took its turn, it is still to be admitted, and no record of it stands
 pub record MayTryToAdmit (v : TreeView) (t : ℕ) (effects : List Effect) : Type 0 where
   pub turn : HeldTurn
   pub has : HasTurnWith v t effects turn
@@ -44,32 +58,32 @@ pub record MayTryToAdmit (v : TreeView) (t : ℕ) (effects : List Effect) : Type
   pub made : turn.row.status ≡ status.Made
   pub none : HasPlacedNone v t
 
--- the seat has the first turn of task t, which was spawned
+-- to place the records of task t when it is made: the seat has its first turn, and it was spawned
 pub record MayPlaceSpawned (v : TreeView) (t : ℕ) (effects : List Effect) : Type 0 where
   pub turn : HeldTurn
   pub has : HasTurnWith v t effects turn
   pub first : turn.first ≡ true
   pub spawned : is_some turn.row.parent ≡ true
 
--- the seat took the turn of task t, which is not enabled
+-- to take the records of task t out: the seat took its turn, and it is enabled no more
 pub record MayRelease (v : TreeView) (t : ℕ) (effects : List Effect) : Type 0 where
   pub turn : HeldTurn
   pub has : HasTurnWith v t effects turn
   pub taken : turn.first ≡ false
   pub inactive : turn.row.status ≢ status.Enabled
 
--- For each effect of task t, an errand of this kind may be run to place its record.
+-- to place a record for each effect of task t, by errands of this kind: an admission comes to this, and so does a spawned child
 pub record MayPlaceAll (v : TreeView) (kind : ErrandKind) (t : ℕ) (effects : List Effect) : Type 0 where
   pub turn : HeldTurn
   pub has : HasTurnWith v t effects turn
   pub may : MaySetOutFor kind turn
   pub child : IsOfChild kind turn
 
--- After.
+-- What every call keeps.
 
--- The seat stands outside the tree and has the slots that it had. Of the floor it knows what it knew, and perhaps of more tasks
--- that they are done. It knows the waits, the contents and the looks that it knew, and of records of tasks other than t what it
--- knew.
+-- All that such a call leaves as it was, if it is about task t. The seat stands outside the tree and has the slots that it had. Of
+-- the floor it knows what it knew, and perhaps of more tasks that they are done. It knows the waits, the contents and the looks
+-- that it knew, and of records of tasks other than t what it knew.
 pub record KeepsAllElse (t : ℕ) (before after : TreeSeat) : Type 0 where
   pub outside : IsOutside after.0
   pub slots : after.1 ≡ before.1
@@ -81,17 +95,19 @@ pub record KeepsAllElse (t : ℕ) (before after : TreeSeat) : Type 0 where
   pub fresh : (r : Record) → r.task ≢ t → (IsAmong r after.0.fresh ↔ IsAmong r before.0.fresh)
   pub clear : (r : Record) → r.task ≢ t → (IsAmong r after.0.clear ↔ IsAmong r before.0.clear)
 
--- r is the record of effect number k of task t, which has these effects: it stands at that effect's place, if it stands
+-- How far a call has come: k counts the effects that it is done with, from the first one on.
+
+-- r is the record of effect number k of task t, which has these effects: it is at that effect's place
 pub record IsRecordOf (nodes : List (List Elem)) (t : ℕ) (effects : List Effect) (k : ℕ) (r : Record) : Type 0 where
   pub task : r.task ≡ t
   pub effect : slice_get effects k ≡ Some r.effect
   pub place : IsPlaceOf nodes r.effect r.node
 
--- the record is that of one of the first k effects
+-- r is the record of one of the first k effects
 abbrev pub IsOneOfFirst : List (List Elem) → ℕ → List Effect → ℕ → Record → Type 0
 IsOneOfFirst nodes t effects k r = (j : ℕ) × (j < k) × IsRecordOf nodes t effects j r
 
--- each of the first k effects of task t has a record that the seat has placed, and it has placed no others since
+-- Each of the first k effects of task t has a record that the seat has placed, and since the first view it has placed no others.
 pub record HasPlacedFirst (nodes : List (List Elem)) (t : ℕ) (effects : List Effect) (k : ℕ)
     (before after : TreeSeat) : Type 0 where
   pub keeps : KeepsAllElse t before after
@@ -99,7 +115,7 @@ pub record HasPlacedFirst (nodes : List (List Elem)) (t : ℕ) (effects : List E
       → (n : ℕ) × IsPlaceOf nodes e n × IsAmong (record { task = t; effect = e; node = n }) after.0.fresh
   pub only : (r : Record) → IsAmong r after.0.fresh → IsAmong r before.0.fresh ⊎ IsOneOfFirst nodes t effects k r
 
--- the seat knows that no record of one of the first k effects of task t stands, and has placed none since
+-- The seat knows that no record of one of the first k effects of task t stands, and has placed none since the first view.
 pub record HasTakenOutFirst (nodes : List (List Elem)) (t : ℕ) (effects : List Effect) (k : ℕ)
     (before after : TreeSeat) : Type 0 where
   pub keeps : KeepsAllElse t before after
@@ -107,31 +123,33 @@ pub record HasTakenOutFirst (nodes : List (List Elem)) (t : ℕ) (effects : List
   pub gone : (r : Record) → IsOneOfFirst nodes t effects k r → ¬ IsAmong r after.0.fresh
   pub only : (r : Record) → IsAmong r after.0.fresh → IsAmong r before.0.fresh
 
--- each effect has a record at its place that the seat has placed
+-- each effect of task t has a record at its place that the seat has placed: the first k of them are all
 abbrev pub HasPlacedEach : List (List Elem) → TreeView → ℕ → List Effect → Type 0
 HasPlacedEach nodes v t effects =
     (e : Effect) → Contains effects e
     → (n : ℕ) × IsPlaceOf nodes e n × IsAmong (record { task = t; effect = e; node = n }) v.fresh
 
--- a record was in the way of one of the effects since the seat had the first view
-abbrev pub WasBarredFor : Program → Bounds → TreeView → TreeView → ℕ → List Effect → Bar → Type 0
-WasBarredFor p lim since v t effects bar = (e : Effect) × Contains effects e × WasBarred p lim since v t e bar
-
 -- the record of effect number k of task t stands now
 abbrev pub RecordStands : List (List Elem) → ℕ → List Effect → ℕ → TreeSeat → TreeSeat → Type 0
 RecordStands nodes t effects k before after = (r : Record) × IsRecordOf nodes t effects k r × HasPlaced before r after
 
--- the bar that was in the way, if one was; nothing if memory ran out
+-- What stops a call that places records.
+
+-- a record of another task, which the bar names, was in the way of one of the effects, since the seat had the first view
+abbrev pub WasBarredFor : Program → Bounds → TreeView → TreeView → ℕ → List Effect → Bar → Type 0
+WasBarredFor p lim since v t effects bar = (e : Effect) × Contains effects e × WasBarred p lim since v t e bar
+
+-- the obstacle that stopped a call was this bar, which only an admission can meet, or else memory ran out
 abbrev pub IsObstacle : Program → Bounds → ErrandKind → TreeView → TreeView → ℕ → List Effect → Obstacle → Type 0
 IsObstacle p lim kind since v t effects (InTheWay bar) = (kind ≡ Admission) × WasBarredFor p lim since v t effects bar
 IsObstacle p lim kind since v t effects (NoMemory memory) = Unit {0}
 
--- the seat met this obstacle, and did nothing else
+-- at one effect the seat met this obstacle, came back, and did nothing else
 abbrev pub HasMet : Program → Bounds → ErrandKind → ℕ → List Effect → Obstacle → TreeSeat → TreeSeat → Type 0
 HasMet p lim kind t effects by before after =
     HasLeft before.0 before.1 None after × IsObstacle p lim kind before.0 after.0 t effects by
 
--- the seat has placed the records of the first effects, so many as it says, and then met this obstacle
+-- the call placed the records of so many of the first effects as it says, and then met this obstacle at the next one
 pub record HasStopped (nodes : List (List Elem)) (p : Program) (lim : Bounds) (kind : ErrandKind) (t : ℕ) (effects : List Effect)
     (stopped : Stopped) (before after : TreeSeat) : Type 0 where
   pub within : stopped.placed < length effects

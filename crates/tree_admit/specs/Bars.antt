@@ -4,11 +4,11 @@ use Rattle.effect_sets.specs.declared.effects.Effect.{Effect}
 use Rattle.effect_sets.specs.Interference.{statically_interferes}
 use Rattle.twe_base.specs.Limits.{Bounds}
 use Rattle.twe_program.specs.Program.{Program}
-use Rattle.admission_laws.specs.admission_core.States.{IsAmong, Record}
-use Rattle.floor_rule.specs.nodes.FactSteps.{IsKnownToWait}
-use Rattle.floor_table.specs.Added.{IsAdded}
-use Rattle.floor_table.specs.declared.nodes.view.TreeView.{TreeView}
-use Rattle.floor_table.specs.nodes.Chains.{HasFollowedTo}
+use Rattle.floor_laws.specs.admission.admission_core.States.{IsAmong, Record}
+use Rattle.floor_laws.specs.rule.nodes.FactSteps.{IsKnownToWait}
+use Rattle.floor_laws.specs.table.Added.{IsAdded}
+use Rattle.floor_laws.specs.declared.table.nodes.view.TreeView.{TreeView}
+use Rattle.floor_laws.specs.table.nodes.Chains.{HasFollowedTo}
 use Rattle.tree_admit.specs.declared.bars.Bar.{Bar}
 use Rattle.tree_admit.specs.Alone.{IsInTheWayIfAlone}
 

@@ -6,17 +6,17 @@ use Rattle.effect_tree.specs.Place.{IsSolid}
 use Rattle.prefix_tree.specs.Nodes.{IsParent}
 use Rattle.twe_base.specs.Limits.{Bounds}
 use Rattle.twe_program.specs.Program.{Program}
-use Rattle.twe_machine.specs.declared.state.TaskStatus.TheVariants as status
-use Rattle.floor_rule.specs.declared.view.HeldTurn.{HeldTurn}
-use Rattle.admission_laws.specs.admission_core.States.{Activity, Descends, IsAbove, IsAmong, ActivityIsOver, Record, Walks}
-use Rattle.admission_laws.specs.admission_core.Events.{AllFinishedOrApart}
-use Rattle.floor_table.specs.declared.nodes.slot.Errand.{Errand}
-use Rattle.floor_table.specs.declared.nodes.slot.ErrandKind.{ErrandKind}
-use Rattle.floor_table.specs.declared.nodes.slot.ErrandKind.TheVariants.{Admission, Placing, Removal}
-use Rattle.floor_table.specs.declared.nodes.slot.TreeSlot.{TreeSlot}
-use Rattle.floor_table.specs.declared.nodes.view.TreeView.{TreeView}
-use Rattle.floor_table.specs.nodes.Seats.{HasOwn, TreeSeat, purpose_for}
-use Rattle.floor_table.specs.nodes.TreeOf.{content_in}
+use Rattle.machine_state.specs.declared.state.TaskStatus.TheVariants as status
+use Rattle.floor_laws.specs.declared.rule.view.HeldTurn.{HeldTurn}
+use Rattle.floor_laws.specs.admission.admission_core.States.{Activity, Descends, IsAbove, IsAmong, ActivityIsOver, Record, Walks}
+use Rattle.floor_laws.specs.admission.admission_core.Events.{AllFinishedOrApart}
+use Rattle.floor_laws.specs.declared.table.nodes.slot.Errand.{Errand}
+use Rattle.floor_laws.specs.declared.table.nodes.slot.ErrandKind.{ErrandKind}
+use Rattle.floor_laws.specs.declared.table.nodes.slot.ErrandKind.TheVariants.{Admission, Placing, Removal}
+use Rattle.floor_laws.specs.declared.table.nodes.slot.TreeSlot.{TreeSlot}
+use Rattle.floor_laws.specs.declared.table.nodes.view.TreeView.{TreeView}
+use Rattle.floor_laws.specs.table.nodes.Seats.{HasOwn, TreeSeat, purpose_for}
+use Rattle.floor_laws.specs.table.nodes.TreeOf.{content_in}
 use Rattle.tree_admit.specs.declared.bars.Attempt.{Attempt}
 use Rattle.tree_admit.specs.declared.bars.Attempt.TheVariants.{Placed, Stood, Barred}
 use Rattle.tree_admit.specs.Bars.{WasBarred}

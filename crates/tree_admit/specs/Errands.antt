@@ -2,19 +2,19 @@
 use Rattle.std.specs.Prelude.{◌≡◌, ℕ, false, List, ◌∷◌, Some, slice_get}
 use Rattle.region_paths.specs.declared.elements.Elem.{Elem}
 use Rattle.effect_sets.specs.declared.effects.Effect.{Effect}
-use Rattle.twe_machine.specs.declared.state.TaskStatus.TheVariants as status
-use Rattle.floor_rule.specs.declared.view.HeldTurn.{HeldTurn}
-use Rattle.floor_table.specs.FloorOf.{turn_in}
-use Rattle.admission_laws.specs.admission_core.States.{Activity, IsAmong, IsPlaceOf, Purpose, Record}
-use Rattle.floor_rule.specs.nodes.LockSteps.{PassesHere}
-use Rattle.floor_rule.specs.nodes.RecordSteps.{not_clear}
-use Rattle.floor_rule.specs.nodes.Trees.{WaitFact}
-use Rattle.floor_table.specs.declared.nodes.slot.Errand.{Errand}
-use Rattle.floor_table.specs.declared.nodes.slot.ErrandKind.{ErrandKind}
-use Rattle.floor_table.specs.declared.nodes.slot.ErrandKind.TheVariants.{Admission, Placing, Removal}
-use Rattle.floor_table.specs.declared.nodes.view.TreeView.{TreeView}
-use Rattle.floor_table.specs.nodes.Seats.{purpose_for, stage_at}
-use Rattle.floor_table.specs.nodes.Without.{without_record}
+use Rattle.machine_state.specs.declared.state.TaskStatus.TheVariants as status
+use Rattle.floor_laws.specs.declared.rule.view.HeldTurn.{HeldTurn}
+use Rattle.floor_laws.specs.table.FloorOf.{turn_in}
+use Rattle.floor_laws.specs.admission.admission_core.States.{Activity, IsAmong, IsPlaceOf, Purpose, Record}
+use Rattle.floor_laws.specs.rule.nodes.LockSteps.{PassesHere}
+use Rattle.floor_laws.specs.rule.nodes.RecordSteps.{not_clear}
+use Rattle.floor_laws.specs.rule.nodes.Trees.{WaitFact}
+use Rattle.floor_laws.specs.declared.table.nodes.slot.Errand.{Errand}
+use Rattle.floor_laws.specs.declared.table.nodes.slot.ErrandKind.{ErrandKind}
+use Rattle.floor_laws.specs.declared.table.nodes.slot.ErrandKind.TheVariants.{Admission, Placing, Removal}
+use Rattle.floor_laws.specs.declared.table.nodes.view.TreeView.{TreeView}
+use Rattle.floor_laws.specs.table.nodes.Seats.{purpose_for, stage_at}
+use Rattle.floor_laws.specs.table.nodes.Without.{without_record}
 
 -- what a worker does on this errand for this effect that has come to node n
 abbrev pub errand_at : Errand → Effect → ℕ → Activity

@@ -2,16 +2,16 @@
 -- that it has out, the latest first.
 use Rattle.std.specs.Prelude.{◌≡◌, ◌≢◌, ℕ, List, ◌∷◌, Option, Some, None}
 use Rattle.twe_base.specs.Limits.{Bounds}
-use Rattle.floor_rule.specs.declared.view.DoneFact.{DoneFact}
-use Rattle.admission_laws.specs.admission_core.States.{Activity, IsAmong, Record}
-use Rattle.floor_rule.specs.nodes.Trees.{WaitFact}
-use Rattle.floor_table.specs.declared.nodes.slot.TreeSlot.{TreeSlot}
-use Rattle.floor_table.specs.declared.nodes.slot.TreeSlot.TheVariants as kinds
-use Rattle.floor_table.specs.Added.{HasGrown}
-use Rattle.floor_table.specs.declared.nodes.view.TreeView.{TreeView}
-use Rattle.floor_table.specs.nodes.Layout.{content_place}
-use Rattle.floor_table.specs.nodes.Seats.{TreeSeat, locked_view}
-use Rattle.floor_table.specs.nodes.TreeOf.{content_in}
+use Rattle.floor_laws.specs.declared.rule.view.DoneFact.{DoneFact}
+use Rattle.floor_laws.specs.admission.admission_core.States.{Activity, IsAmong, Record}
+use Rattle.floor_laws.specs.rule.nodes.Trees.{WaitFact}
+use Rattle.floor_laws.specs.declared.table.nodes.slot.TreeSlot.{TreeSlot}
+use Rattle.floor_laws.specs.declared.table.nodes.slot.TreeSlot.TheVariants as kinds
+use Rattle.floor_laws.specs.table.Added.{HasGrown}
+use Rattle.floor_laws.specs.declared.table.nodes.view.TreeView.{TreeView}
+use Rattle.floor_laws.specs.table.nodes.Layout.{content_place}
+use Rattle.floor_laws.specs.table.nodes.Seats.{TreeSeat, locked_view}
+use Rattle.floor_laws.specs.table.nodes.TreeOf.{content_in}
 
 -- the seat does nothing in the tree, and has the content of no node
 pub record IsOutside (v : TreeView) : Type 0 where

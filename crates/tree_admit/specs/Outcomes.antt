@@ -1,9 +1,9 @@
 -- What comes of going into the tree for one effect of a task.
 use Rattle.std.specs.Prelude.{◌≡◌, ◌≢◌, None, length}
 use Rattle.twe_base.specs.Limits.{Bounds}
-use Rattle.floor_table.specs.declared.view.SeatKind.TheVariants.{Spent}
-use Rattle.admission_laws.specs.admission_core.States.{IsAmong, Record}
-use Rattle.floor_table.specs.nodes.Seats.{TreeSeat}
+use Rattle.floor_laws.specs.declared.table.view.SeatKind.TheVariants.{Spent}
+use Rattle.floor_laws.specs.admission.admission_core.States.{IsAmong, Record}
+use Rattle.floor_laws.specs.table.nodes.Seats.{TreeSeat}
 use Rattle.tree_admit.specs.declared.footing.Footing.{Footing}
 use Rattle.tree_admit.specs.Errands.{with_clear, with_placed, with_removed}
 use Rattle.tree_admit.specs.Going.{HasLeft, IsOutside}

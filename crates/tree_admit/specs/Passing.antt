@@ -2,8 +2,8 @@
 use Rattle.std.specs.Prelude.{◌≡◌, ◌⊎◌, ◌==◌, ◌≤◌, ◌<◌, ◌||◌, ℕ, Bool, true, not, List, Some, slice_get}
 use Rattle.effect_sets.specs.declared.effects.Effect.{Effect}
 use Rattle.effect_sets.specs.Interference.{statically_interferes}
-use Rattle.admission_laws.specs.admission_core.States.{IsAmong, Record}
-use Rattle.floor_rule.specs.nodes.Trees.{WaitFact}
+use Rattle.floor_laws.specs.admission.admission_core.States.{IsAmong, Record}
+use Rattle.floor_laws.specs.rule.nodes.Trees.{WaitFact}
 
 -- the record is of task t, or its effect is apart from effect e, so it passes whatever is known of waits
 abbrev pub is_at_ease : ℕ → Effect → Record → Bool

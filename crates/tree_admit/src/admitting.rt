@@ -1,7 +1,7 @@
 //! Trying to admit a task.
 ghost use Rattle.std.specs.Prelude.{◌≡◌, ◌<◌, Ok, OnErr};
-ghost use Rattle.floor_rule.specs.nodes.FactSteps.{HasPlacedAll};
-ghost use Rattle.floor_table.specs.nodes.Seats.{tree_seen, turns_seen};
+ghost use Rattle.floor_laws.specs.rule.nodes.FactSteps.{HasPlacedAll};
+ghost use Rattle.floor_laws.specs.table.nodes.Seats.{tree_seen, turns_seen};
 ghost use Rattle.tree_admit.specs.declared.admitting.Admittance.TheVariants as admittances;
 ghost use Rattle.tree_admit.specs.declared.bars.Bar as bars;
 ghost use Rattle.tree_admit.specs.Alone.{MayNotAdmitIfAlone};
@@ -14,8 +14,8 @@ use crate::placing::{Obstacle, place_all};
 use crate::releasing::take_out_first;
 use effect_sets::Effect;
 use effect_tree::Shape;
-use floor_table::Named;
-use floor_table::nodes::{ErrandKind, Planted};
+use floor_laws::table::Named;
+use floor_laws::table::nodes::{ErrandKind, Planted};
 use std::alloc::Global;
 use std::sync::Wait;
 use task_floor::{Floor, Stand};

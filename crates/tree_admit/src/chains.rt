@@ -1,18 +1,18 @@
 //! Following the waits from a task, past the records of other tasks on the way.
 ghost use Rattle.std.specs.Prelude.{◌≡◌, ◌≢◌, ◌≤◌, ◌<◌, ℕ, IfErr, IfOk, OnOk};
-ghost use Rattle.floor_table.specs.declared.view.SeatKind.TheVariants.{Spent};
-ghost use Rattle.admission_laws.specs.admission_core.States.{IsAmong};
-ghost use Rattle.floor_table.specs.nodes.Chains.{HasFollowedTo};
+ghost use Rattle.floor_laws.specs.declared.table.view.SeatKind.TheVariants.{Spent};
+ghost use Rattle.floor_laws.specs.admission.admission_core.States.{IsAmong};
+ghost use Rattle.floor_laws.specs.table.nodes.Chains.{HasFollowedTo};
 ghost use Rattle.tree_admit.specs.Alone.{FollowedAlone};
-ghost use Rattle.floor_rule.specs.nodes.FactSteps.{IsKnownToWait};
+ghost use Rattle.floor_laws.specs.rule.nodes.FactSteps.{IsKnownToWait};
 ghost use Rattle.tree_admit.specs.Going.{HasOnlyFollowed};
 ghost use Rattle.tree_admit.specs.Passing.{EachBetween, EaseOrWaits};
 
 use crate::passing::pass_over;
 use effect_sets::Effect;
-use floor_rule::Phase;
-use floor_table::Named;
-use floor_table::nodes::{NodeContent, Planted};
+use floor_laws::rule::Phase;
+use floor_laws::table::Named;
+use floor_laws::table::nodes::{NodeContent, Planted};
 use task_floor::{Floor, Stand};
 
 /// Follows the waits from a task. `Ok` if they lead to the task `to`: the stand knows that from then on, also of those of which

@@ -1,15 +1,15 @@
 //! Going down from the root to the place of an effect, hand over hand.
 ghost use Rattle.std.specs.Prelude.{◌≡◌, ◌≢◌, ◌<◌, ℕ, List, None, IfErr, IfOk, length};
-ghost use Rattle.floor_table.specs.declared.view.SeatKind.TheVariants.{Spent};
-ghost use Rattle.admission_laws.specs.admission_core.States.{Activity};
-ghost use Rattle.floor_table.specs.declared.nodes.slot.ErrandKind.TheVariants.{Admission};
-ghost use Rattle.floor_table.specs.declared.nodes.slot.TreeSlot as slots;
-ghost use Rattle.floor_table.specs.declared.nodes.view.TreeView.{TreeView};
-ghost use Rattle.floor_table.specs.nodes.Seats.{HasOwn};
+ghost use Rattle.floor_laws.specs.declared.table.view.SeatKind.TheVariants.{Spent};
+ghost use Rattle.floor_laws.specs.admission.admission_core.States.{Activity};
+ghost use Rattle.floor_laws.specs.declared.table.nodes.slot.ErrandKind.TheVariants.{Admission};
+ghost use Rattle.floor_laws.specs.declared.table.nodes.slot.TreeSlot as slots;
+ghost use Rattle.floor_laws.specs.declared.table.nodes.view.TreeView.{TreeView};
+ghost use Rattle.floor_laws.specs.table.nodes.Seats.{HasOwn};
 ghost use Rattle.tree_admit.specs.Bars.{WasBarred};
 ghost use Rattle.tree_admit.specs.Descents.{MayStepDown};
 ghost use Rattle.tree_admit.specs.Errands.{KnowsErrand, errand_at};
-ghost use Rattle.floor_table.specs.nodes.Seats.{stage_at};
+ghost use Rattle.floor_laws.specs.table.nodes.Seats.{stage_at};
 ghost use Rattle.tree_admit.specs.Going.{HasLeft, HasNode, IsOutside};
 
 use crate::bars::Bar;
@@ -19,8 +19,8 @@ use crate::testing::look_at;
 use crate::ways::next_toward;
 use effect_sets::Effect;
 use effect_tree::Shape;
-use floor_table::Named;
-use floor_table::nodes::{Errand, NodeContent, Planted};
+use floor_laws::table::Named;
+use floor_laws::table::nodes::{Errand, NodeContent, Planted};
 use std::sync::Wait;
 use task_floor::{Floor, Stand};
 

@@ -3,6 +3,7 @@
 #![tactic(auto)]
 
 mod admitting;
+mod at_place;
 mod bars;
 mod chains;
 mod descents;

@@ -4,15 +4,15 @@
 ghost use Rattle.std.specs.Prelude.{◌≡◌, ◌<◌, ℕ, IfSome, IsFalse, IsNone, IsTrue, length};
 ghost use Rattle.prefix_tree.specs.Nodes.{IsParent};
 ghost use mathlib.Core.Option.{none, some};
-ghost use Rattle.admission_laws.specs.admission_core.States.{Activity};
-ghost use Rattle.floor_table.specs.declared.nodes.slot.TreeSlot.TheVariants as kinds;
-ghost use Rattle.floor_table.specs.nodes.Seats.{HasOwn, MayLock, MayPass, passed_view};
+ghost use Rattle.floor_laws.specs.admission.admission_core.States.{Activity};
+ghost use Rattle.floor_laws.specs.declared.table.nodes.slot.TreeSlot.TheVariants as kinds;
+ghost use Rattle.floor_laws.specs.table.nodes.Seats.{HasOwn, MayLock, MayPass, passed_view};
 ghost use Rattle.tree_admit.specs.Going.{HasLocked};
 
 use crate::ways::has_children;
 use effect_tree::Shape;
-use floor_table::Named;
-use floor_table::nodes::{Errand, NodeContent, Planted};
+use floor_laws::table::Named;
+use floor_laws::table::nodes::{Errand, NodeContent, Planted};
 use std::sync::Wait;
 use std::thread;
 use task_floor::{Floor, Stand};

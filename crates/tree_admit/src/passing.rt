@@ -1,10 +1,10 @@
 //! Passing over the records that need no walk of their own along the waits.
 ghost use Rattle.std.specs.Prelude.{◌≡◌, ◌+◌, ◌≤◌, ℕ, false, IsTrue, Some, slice_get};
-ghost use Rattle.admission_laws.specs.admission_core.States.{Record};
+ghost use Rattle.floor_laws.specs.admission.admission_core.States.{Record};
 ghost use Rattle.tree_admit.specs.Passing.{EachBetween, is_at_ease, is_own_or_meets, is_passed_over};
 
 use effect_sets::{Effect, interferes};
-use floor_table::nodes::{NodeContent, NodeRecord};
+use floor_laws::table::nodes::{NodeContent, NodeRecord};
 
 /// Whether a record passes for an effect of a task whatever is known of waits: it is of that task, or the two effects are apart.
 pub(crate) fn passes_at_once(task: u32, effect: &Effect, r: &NodeRecord) -> bool

@@ -1,9 +1,9 @@
 //! Taking the records of the effects of a task out, one after the other.
 ghost use Rattle.std.specs.Prelude.{◌≡◌, ◌<◌, ◌≤◌, length};
 ghost use Rattle.prefix_tree.specs.Nodes.{IsTreeOfPaths};
-ghost use Rattle.admission_laws.specs.admission_core.States.{Record};
-ghost use Rattle.floor_rule.specs.nodes.TurnSteps.{IsClearOf};
-ghost use Rattle.floor_table.specs.nodes.Seats.{tree_seen};
+ghost use Rattle.floor_laws.specs.admission.admission_core.States.{Record};
+ghost use Rattle.floor_laws.specs.rule.nodes.TurnSteps.{IsClearOf};
+ghost use Rattle.floor_laws.specs.table.nodes.Seats.{tree_seen};
 ghost use Rattle.tree_admit.specs.Attempts.{HasTakenOutFirst, IsRecordOf, KeepsAllElse, MayRelease};
 ghost use Rattle.tree_admit.specs.Outcomes.{IsTakenOut, StandsOn};
 
@@ -11,8 +11,8 @@ use crate::errands::take_out_one;
 use crate::footing::Footing;
 use effect_sets::Effect;
 use effect_tree::Shape;
-use floor_table::Named;
-use floor_table::nodes::{Errand, ErrandKind, Planted};
+use floor_laws::table::Named;
+use floor_laws::table::nodes::{Errand, ErrandKind, Planted};
 use std::sync::Wait;
 use task_floor::{Floor, Stand};
 

@@ -1,10 +1,23 @@
-//! Looking at the records that a worker meets on its way to an admission.
+//! Looking at the records that a worker meets at a node on its way to an admission.
+//!
+//! A record passes for an effect of a task if it is of that task, if the two effects are apart, or if its task is known to wait for
+//! the task, perhaps through others. If not, it is a bar. The records of a content stand in an order, the latest first.
+//!
+//! For example task 7 is to write `A`. At the node of `A` stand records of tasks 5, 3 and 2, in this order, which write `A` too. Task 2
+//! waits for 3, 3 waits for 5, and 5 waits for 7. All three records pass (`records_pass`), and it is found in one of two ways:
+//!
+//! - Task 5 decides at the node for the records before its own, since all their tasks were known to wait for it when its record was
+//!   placed. Then only the waits from 5 are followed. They lead to 7, and no other record is looked at (`undecided`).
+//! - If it does not decide, the earliest record is looked at first (`first_pass`). The waits from 2 lead past 3 and 5 to 7, so the
+//!   records of 3 and 5 pass with that of 2 (`record_leads`), and none is left.
+//!
+//! If 5 waited for nobody, the record of 2 would be a bar, and the waits from there would end at 5.
 ghost use Rattle.std.specs.Prelude.{◌≡◌, ◌≢◌, ◌≤◌, ℕ, false, IfErr, IfOk, IsTrue, OnOk, Some, length};
-ghost use Rattle.floor_table.specs.declared.view.SeatKind.TheVariants.{Spent};
-ghost use Rattle.admission_laws.specs.admission_core.States.{Admit, IsAmong};
-ghost use Rattle.floor_table.specs.nodes.Deciders.{AllWaitFor};
-ghost use Rattle.floor_table.specs.nodes.Seats.{purpose_for};
-ghost use Rattle.floor_table.specs.nodes.TreeOf.{content_in};
+ghost use Rattle.floor_laws.specs.declared.table.view.SeatKind.TheVariants.{Spent};
+ghost use Rattle.floor_laws.specs.admission.admission_core.States.{Admit, IsAmong};
+ghost use Rattle.floor_laws.specs.table.nodes.Deciders.{AllWaitFor};
+ghost use Rattle.floor_laws.specs.table.nodes.Seats.{purpose_for};
+ghost use Rattle.floor_laws.specs.table.nodes.TreeOf.{content_in};
 ghost use Rattle.tree_admit.specs.Bars.{IsBarIn, IsBarOf};
 ghost use Rattle.tree_admit.specs.Errands.{AllPass};
 ghost use Rattle.tree_admit.specs.Going.{HasOnlyFollowed};
@@ -14,8 +27,8 @@ use crate::bars::Bar;
 use crate::chains::follow_past;
 use crate::passing::{none_is_apart, passes_at_once};
 use effect_sets::Effect;
-use floor_table::Named;
-use floor_table::nodes::{Errand, ErrandKind, NodeContent, NodeRecord, Planted};
+use floor_laws::table::Named;
+use floor_laws::table::nodes::{Errand, ErrandKind, NodeContent, NodeRecord, Planted};
 use task_floor::{Floor, Stand};
 
 /// Follows the waits from the task of the record at index `at` of a content, which is that of this node. The record does not pass

@@ -2,11 +2,11 @@
 //! since the effect may meet what stands below its place. Where it cannot, the walk does not go.
 ghost use Rattle.std.specs.Prelude.{◌≡◌, ◌≢◌, ◌<◌, ℕ, List, IfErr, IfOk, ◌∷◌, length};
 ghost use Rattle.effect_tree.specs.Place.{IsSolid};
-ghost use Rattle.floor_table.specs.declared.view.SeatKind.TheVariants.{Spent};
-ghost use Rattle.floor_table.specs.declared.nodes.slot.ErrandKind.TheVariants.{Admission};
-ghost use Rattle.floor_table.specs.declared.nodes.slot.TreeSlot as slots;
-ghost use Rattle.floor_table.specs.declared.nodes.view.TreeView.{TreeView};
-ghost use Rattle.floor_table.specs.nodes.Seats.{left_to_give};
+ghost use Rattle.floor_laws.specs.declared.table.view.SeatKind.TheVariants.{Spent};
+ghost use Rattle.floor_laws.specs.declared.table.nodes.slot.ErrandKind.TheVariants.{Admission};
+ghost use Rattle.floor_laws.specs.declared.table.nodes.slot.TreeSlot as slots;
+ghost use Rattle.floor_laws.specs.declared.table.nodes.view.TreeView.{TreeView};
+ghost use Rattle.floor_laws.specs.table.nodes.Seats.{left_to_give};
 ghost use Rattle.tree_admit.specs.Bars.{WasBarred};
 ghost use Rattle.tree_admit.specs.Descents.{HasWalkedBelow, MayWalkBelow, walking};
 ghost use Rattle.tree_admit.specs.Going.{HasLeft};
@@ -18,8 +18,8 @@ use crate::testing::look_at;
 use crate::ways::reached_below;
 use effect_sets::Effect;
 use effect_tree::Shape;
-use floor_table::Named;
-use floor_table::nodes::{Errand, NodeContent, Planted};
+use floor_laws::table::Named;
+use floor_laws::table::nodes::{Errand, NodeContent, Planted};
 use std::sync::Wait;
 use task_floor::{Floor, Stand};
 

@@ -4,7 +4,7 @@ use Rattle.twe_base.specs.Limits.{Bounds}
 use Rattle.seg_journal.specs.declared.moves.Move.{Move}
 use Rattle.twe_ast.specs.declared.item.Item.{Item}
 use Rattle.twe_program.specs.Program.{Program}
-use Rattle.twe_machine.specs.declared.state.TaskRow.{TaskRow}
+use Rattle.machine_state.specs.declared.state.TaskRow.{TaskRow}
 use Rattle.twe_io.specs.declared.answer.Answer.{Answer}
 use Rattle.twe_io.specs.declared.status.Status.TheVariants.{Done}
 use Rattle.twe_io.specs.Answers.{on_out}
@@ -17,7 +17,7 @@ use Rattle.span_profile.specs.Advice.{AreMadeTasks, IsAdvice}
 use Rattle.span_profile.specs.declared.advising.Advice.{Advice}
 use Rattle.span_profile.specs.Profiles.{HasEarliest}
 use Rattle.span_profile.specs.Reasons.{HasSteps}
-use Rattle.twe_advise.specs.declared.paces.Pace.{Pace}
+use Rattle.twe_advise.specs.declared.paces.PacedTime.{PacedTime}
 use Rattle.twe_advise.specs.Paces.{ArePaces, worker_counts}
 use Rattle.twe_advise.specs.Answers.{AdviceGiven}
 use Rattle.twe_advise.specs.declared.words.Form.{Form}
@@ -26,13 +26,13 @@ use Rattle.twe_advise.specs.inner.Given.{AdvisedBy}
 
 -- the parts of an answer with advice
 pub advised_by : (form : Form) (items : List Item) (p : Program) (advice : Advice) (held : HeldProfile) (pairs : List HeldPair) (starts ends : List ℕ) (shown : List Item)
-    (paces slice : List Pace) (text : List ℕ) (answer : Answer)
+    (paces slice : List PacedTime) (text : List ℕ) (answer : Answer)
     → starts ≡ advice.profile.starts → ends ≡ advice.profile.ends → shown ≡ items
     → ArePaces starts ends worker_counts paces → slice ≡ paces
     → text ≡ advice_text form p shown advice.profile.work advice.profile.span held.span held.holds pairs slice advice.works advice.tasks advice.profile.starts advice.steps → answer ≡ on_out Done text
     → AdvisedBy form items p advice held pairs answer
 advised_by form items p advice held pairs starts ends shown paces slice text answer starts_are ends_are shown_are are same is answer_is =
-    let written = λ (i : List Item) (l : List Pace).
+    let written = λ (i : List Item) (l : List PacedTime).
     advice_text form p i advice.profile.work advice.profile.span held.span held.holds pairs l advice.works advice.tasks advice.profile.starts advice.steps in (
       paces,
       subst (λ (s : List ℕ). ArePaces s advice.profile.ends worker_counts paces) starts_are (subst (λ (e : List ℕ). ArePaces starts e worker_counts paces) ends_are are),

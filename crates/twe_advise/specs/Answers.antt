@@ -12,7 +12,7 @@ use Rattle.twe_io.specs.Answers.{IsAnswered, on_out}
 use Rattle.twe_io.specs.declared.answer.Answer.{Answer}
 use Rattle.twe_io.specs.declared.status.Status.{Status}
 use Rattle.twe_io.specs.declared.status.Status.TheVariants.{Done}
-use Rattle.twe_machine.specs.declared.state.TaskRow.{TaskRow}
+use Rattle.machine_state.specs.declared.state.TaskRow.{TaskRow}
 use Rattle.span_profile.specs.Profiles.{HasEarliest}
 use Rattle.span_profile.specs.Reasons.{HasSteps}
 use Rattle.span_profile.specs.declared.reasons.ChainStep.{ChainStep}
@@ -23,7 +23,7 @@ use Rattle.held_span.specs.declared.hold.Hold.{Hold}
 use Rattle.span_profile.specs.Advice.{AreMadeTasks, IsAdvice}
 use Rattle.span_profile.specs.declared.totals.TaskWork.{TaskWork}
 use Rattle.twe_advise.specs.declared.words.Form.{Form}
-use Rattle.twe_advise.specs.declared.paces.Pace.{Pace}
+use Rattle.twe_advise.specs.declared.paces.PacedTime.{PacedTime}
 use Rattle.twe_advise.specs.Forms.{advice_text}
 use Rattle.twe_advise.specs.Parameters.{AreDeclarations}
 use Rattle.twe_advise.specs.Paces.{ArePaces, worker_counts}
@@ -33,7 +33,7 @@ use Rattle.twe_advise.specs.Words.{advise_usage_text, form_of}
 pub data AdviceGiven (form : Form) (items : List Item) (p : Program) (lim : Bounds) (moves : List Move) : Answer → Type 0 where
   -- what the run could gain is written, which effects held most, and why the entries of its heaviest chain follow one another
   advised : (work span held : ℕ) (chain : List ℕ) (works : List TaskWork) (steps : List ChainStep) (tasks : List TaskRow)
-      (starts ends held_starts held_ends : List ℕ) (holds : List Hold) (pairs : List HeldPair) (paces : List Pace)
+      (starts ends held_starts held_ends : List ℕ) (holds : List Hold) (pairs : List HeldPair) (paces : List PacedTime)
       → IsAdvice p lim moves work span chain works → HasSteps p lim moves chain steps
       → AreMadeTasks p lim moves tasks → HasEarliest p lim moves span starts ends → ArePaces starts ends worker_counts paces
       → IsHeldProfile p lim moves held held_starts held_ends holds → HeldMost tasks holds pairs

@@ -2,7 +2,7 @@
 -- it comes after the one before. The entry before is always of the task of the line above.
 use Rattle.std.specs.Prelude.{◌++◌, ℕ, Bool, true, false, List, [], ◌∷◌, Option, None, Some, codes, decimal, slice_get}
 use Rattle.twe_program.specs.Program.{Program}
-use Rattle.twe_machine.specs.declared.state.TaskRow.{TaskRow}
+use Rattle.machine_state.specs.declared.state.TaskRow.{TaskRow}
 use Rattle.run_texts.specs.CellTexts.{cell_text}
 use Rattle.run_texts.specs.TaskLabels.{decl_place_text, task_call}
 use Rattle.span_profile.specs.declared.reasons.ChainStep.{ChainStep}

@@ -1,7 +1,7 @@
 -- How long the tasks of a declaration were held.
 use Rattle.std.specs.Prelude.{◌==◌, ℕ, Bool, false, List, Option, None, Some, if◌then◌else◌, slice_get, sum_by}
 use Rattle.held_span.specs.declared.hold.Hold.{Hold}
-use Rattle.twe_machine.specs.declared.state.TaskRow.{TaskRow}
+use Rattle.machine_state.specs.declared.state.TaskRow.{TaskRow}
 
 -- whether the row of a task that was looked up is of the declaration with this number
 abbrev pub is_row_of : ℕ → Option TaskRow → Bool

@@ -10,7 +10,7 @@ use Rattle.twe_program.specs.declared.program.Decl.{Decl}
 use Rattle.twe_program.specs.Program.{Program}
 use Rattle.held_span.specs.declared.pair.DeclaredEffect.{DeclaredEffect}
 use Rattle.held_span.specs.declared.pair.HeldPair.{HeldPair}
-use Rattle.text_meaning.specs.EffectTexts.{effect_text}
+use Rattle.twe_frontend.specs.meaning.EffectTexts.{effect_text}
 use Rattle.run_texts.specs.TaskLabels.{decl_name}
 use Rattle.twe_advise.specs.Parameters.{task_params}
 use Rattle.twe_advise.specs.Texts.{number_column}

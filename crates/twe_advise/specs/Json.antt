@@ -2,15 +2,15 @@
 use Rattle.std.specs.Prelude.{◌-◌, ◌++◌, ◌==◌, ℕ, List, [], ◌∷◌, codes, if◌then◌else◌}
 use Rattle.std.specs.List.{flat_map}
 use Rattle.twe_program.specs.declared.program.Decl.{Decl}
-use Rattle.span_profile.specs.Schedules.{least_time}
+use Rattle.schedules.specs.Schedules.{least_time}
 use Rattle.span_profile.specs.Advice.{parallelism_of}
 use Rattle.span_profile.specs.Totals.{total_of}
 use Rattle.span_profile.specs.declared.totals.TaskTotal.{TaskTotal}
 use Rattle.span_profile.specs.declared.totals.TaskWork.{TaskWork}
 use Rattle.held_span.specs.declared.hold.Hold.{Hold}
-use Rattle.twe_machine.specs.declared.state.TaskRow.{TaskRow}
+use Rattle.machine_state.specs.declared.state.TaskRow.{TaskRow}
 use Rattle.twe_advise.specs.HeldTimes.{held_time}
-use Rattle.twe_advise.specs.declared.paces.Pace.{Pace}
+use Rattle.twe_advise.specs.declared.paces.PacedTime.{PacedTime}
 use Rattle.twe_advise.specs.Texts.{hundredths_text, rows_by, word_number}
 
 -- `{"work":8,"span":6,"parallelism":1.33`
@@ -24,22 +24,22 @@ unfoldable pub json_held : ℕ → ℕ → List ℕ
 json_held span held = word_number (codes ",\"held_span\":") held ++ word_number (codes ",\"held_longer_by\":") (held - span)
 
 -- `{"workers":2,"least":6,"paced":6}`
-abbrev pub json_time : ℕ → ℕ → Pace → List ℕ
+abbrev pub json_time : ℕ → ℕ → PacedTime → List ℕ
 json_time work span pace =
     (word_number (codes "{\"workers\":") pace.workers ++ word_number (codes ",\"least\":") (least_time work span pace.workers))
     ++ (word_number (codes ",\"paced\":") pace.time ++ codes "}")
 
 -- the same after a comma
-abbrev pub json_next_time : ℕ → ℕ → Pace → List ℕ
+abbrev pub json_next_time : ℕ → ℕ → PacedTime → List ℕ
 json_next_time work span pace = codes "," ++ json_time work span pace
 
 -- these objects with commas between them
-abbrev pub json_paces : ℕ → ℕ → List Pace → List ℕ
+abbrev pub json_paces : ℕ → ℕ → List PacedTime → List ℕ
 json_paces work span [] = []
 json_paces work span (pace ∷ paces) = json_time work span pace ++ flat_map (json_next_time work span) paces
 
 -- the times
-unfoldable pub json_times : ℕ → ℕ → List Pace → List ℕ
+unfoldable pub json_times : ℕ → ℕ → List PacedTime → List ℕ
 json_times work span paces = codes ",\"times\":[" ++ json_paces work span paces
 
 -- a comma, unless this is the first one
@@ -63,7 +63,7 @@ abbrev pub json_tasks : List TaskWork → List TaskRow → List Hold → ℕ →
 json_tasks works rows holds number decls = rows_by (json_task_of works rows holds) number decls
 
 -- the object, with these objects of the pairs that held most and of the chain
-abbrev pub json_text : List Decl → ℕ → ℕ → ℕ → List Hold → List Pace → List TaskWork → List TaskRow → List ℕ → List ℕ
+abbrev pub json_text : List Decl → ℕ → ℕ → ℕ → List Hold → List PacedTime → List TaskWork → List TaskRow → List ℕ → List ℕ
     → List ℕ
 json_text decls work span held holds paces works rows pairs chain =
     ((((((((json_head work span ++ json_held span held) ++ json_times work span paces) ++ codes "],\"tasks\":[")

@@ -4,7 +4,7 @@ use Rattle.std.specs.Prelude.{◌++◌, ℕ, suc, Bool, true, false, List, [], �
 use Rattle.twe_base.specs.declared.place.Place.{Place}
 use Rattle.twe_program.specs.declared.program.Decl.{Decl}
 use Rattle.twe_program.specs.Program.{Program}
-use Rattle.twe_machine.specs.declared.state.TaskRow.{TaskRow}
+use Rattle.machine_state.specs.declared.state.TaskRow.{TaskRow}
 use Rattle.run_texts.specs.CellTexts.{cell_text}
 use Rattle.run_texts.specs.TaskLabels.{listed_args, decl_name}
 use Rattle.span_profile.specs.declared.reasons.ChainStep.{ChainStep}

@@ -2,15 +2,15 @@
 use Rattle.std.specs.Prelude.{◌-◌, ◌/◌, ◌%◌, ◌++◌, ℕ, suc, List, [], ◌∷◌, codes, decimal, drop, length, min}
 use Rattle.std.specs.List.{flat_map}
 use Rattle.twe_program.specs.declared.program.Decl.{Decl}
-use Rattle.span_profile.specs.Schedules.{least_time}
+use Rattle.schedules.specs.Schedules.{least_time}
 use Rattle.span_profile.specs.Advice.{parallelism_of}
 use Rattle.span_profile.specs.Totals.{total_of}
 use Rattle.span_profile.specs.declared.totals.TaskTotal.{TaskTotal}
 use Rattle.span_profile.specs.declared.totals.TaskWork.{TaskWork}
 use Rattle.held_span.specs.declared.hold.Hold.{Hold}
-use Rattle.twe_machine.specs.declared.state.TaskRow.{TaskRow}
+use Rattle.machine_state.specs.declared.state.TaskRow.{TaskRow}
 use Rattle.twe_advise.specs.HeldTimes.{held_time}
-use Rattle.twe_advise.specs.declared.paces.Pace.{Pace}
+use Rattle.twe_advise.specs.declared.paces.PacedTime.{PacedTime}
 
 -- a number at the right of a column of 12 bytes; a longer number takes more
 abbrev pub number_column : ℕ → List ℕ
@@ -30,14 +30,13 @@ head_text work span =
     (word_number (codes "work ") work ++ word_number (codes ", span ") span)
     ++ ((codes ", parallelism " ++ hundredths_text (parallelism_of work span)) ++ codes "\n")
 
--- the held span, and how much longer it is than the span
+-- the held span, and how much longer than the span the order of admissions makes it
 unfoldable pub held_text : ℕ → ℕ → List ℕ
 held_text span held =
-    (word_number (codes "held span ") held ++ word_number (codes ", longer by ") (held - span))
-    ++ codes ": what effects wider than the accesses cost, and running ahead could win\n"
+    (word_number (codes "held span ") held ++ word_number (codes ": the order of admissions adds ") (held - span)) ++ codes "\n"
 
 -- so many workers, the least time of a schedule with them, and the time of the paced timetable
-abbrev pub time_row : ℕ → ℕ → Pace → List ℕ
+abbrev pub time_row : ℕ → ℕ → PacedTime → List ℕ
 time_row work span pace =
     ((number_column pace.workers ++ number_column (least_time work span pace.workers)) ++ number_column pace.time) ++ codes "\n"
 
@@ -61,7 +60,7 @@ abbrev pub task_rows : List TaskWork → List TaskRow → List Hold → ℕ → 
 task_rows works rows holds number decls = rows_by (task_row_of works rows holds) number decls
 
 -- the table of times
-unfoldable pub times_text : ℕ → ℕ → List Pace → List ℕ
+unfoldable pub times_text : ℕ → ℕ → List PacedTime → List ℕ
 times_text work span paces = codes "\n     workers  least time  paced time\n" ++ flat_map (time_row work span) paces
 
 -- the table of tasks
@@ -70,6 +69,6 @@ tasks_text works rows holds decls =
     codes "\n       tasks        work    heaviest        held  name\n" ++ task_rows works rows holds 0 decls
 
 -- what is written as tables: work, span and parallelism, the held span, the times, and the tasks
-abbrev pub tables_text : List Decl → ℕ → ℕ → ℕ → List Hold → List Pace → List TaskWork → List TaskRow → List ℕ
+abbrev pub tables_text : List Decl → ℕ → ℕ → ℕ → List Hold → List PacedTime → List TaskWork → List TaskRow → List ℕ
 tables_text decls work span held holds paces works rows =
     ((head_text work span ++ held_text span held) ++ times_text work span paces) ++ tasks_text works rows holds decls

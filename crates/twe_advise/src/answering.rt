@@ -1,28 +1,28 @@
 //! The answer to the moves of a journal.
 ghost use Rattle.std.specs.Prelude.{◌≡◌, ℕ, IfOk, IsErrOf, length};
 ghost use Rattle.span_profile.specs.Totals.{CanBeSummed};
-ghost use Rattle.twe_machine.specs.declared.legal.Why.{Why};
-ghost use Rattle.twe_machine.specs.declared.replaying.ReplayFail.TheVariants.{Illegal};
-ghost use Rattle.twe_machine.specs.Replays.{IsFirstIllegal};
+ghost use Rattle.machine_state.specs.declared.why.Why.{Why};
+ghost use Rattle.machine_state.specs.declared.replay_fail.ReplayFail.TheVariants.{Illegal};
+ghost use Rattle.machine_state.specs.Replays.{IsFirstIllegal};
 ghost use Rattle.twe_advise.specs.Answers.{AdviceGiven};
 ghost use Rattle.twe_advise.specs.inner.Given.{AdvisedBy};
 
 use crate::forms::advice_text;
 use crate::paces::paces_of;
-use crate::request::Request;
+use crate::request::AdviceRequest;
 use held_span::{HeldPair, HeldProfile, held_pairs, held_profile};
+use machine_state::ReplayFail;
 use seg_journal::{Limits, Move};
 use span_profile::{Advice, advise};
 use std::alloc::Global;
 use twe_base::Memory;
 use twe_io::{Answer, Status};
-use twe_machine::ReplayFail;
 use twe_program::Prog;
 
 /// What the run of these moves could gain, or the number of the first that is not legal, counted from 1.
 pub(crate) fn advice_answer(
     alloc: Global,
-    request: &Request,
+    request: &AdviceRequest,
     p: &Prog,
     lim: Limits,
     moves: &[Move],
@@ -40,7 +40,7 @@ pub(crate) fn advice_answer(
 /// The answer that has this advice, with the times of the paced timetables.
 fn advised_answer(
     alloc: Global,
-    request: &Request,
+    request: &AdviceRequest,
     p: &Prog,
     advice: &Advice,
     held: &HeldProfile,

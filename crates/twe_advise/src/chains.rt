@@ -5,10 +5,10 @@ ghost use Rattle.twe_advise.specs.Chains.{access_words, after_words, begin_of, c
 
 use crate::text::push_small_column;
 use itoa::Buffer;
+use machine_state::TaskRow;
 use run_texts::{push_cell_path, push_decl_place, push_task_call};
 use span_profile::{ChainStep, LinkReason};
 use twe_base::{Bytes, Memory};
-use twe_machine::TaskRow;
 use twe_program::Prog;
 
 /// Appends a word and the number of a task.

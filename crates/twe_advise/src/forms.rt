@@ -9,7 +9,7 @@ use crate::holds::push_holds_table;
 use crate::json::{push_json_head, push_json_held, push_json_tasks, push_json_times};
 use crate::json_chains::push_json_steps;
 use crate::json_holds::push_json_pairs;
-use crate::paces::Pace;
+use crate::paces::PacedTime;
 use crate::text::{push_head, push_held, push_tasks_table, push_times_table};
 use crate::words::Form;
 use held_span::{HeldPair, HeldProfile};
@@ -28,7 +28,7 @@ pub(crate) fn advice_text(
     items: &[Item],
     held: &HeldProfile,
     pairs: &[HeldPair],
-    paces: &[Pace],
+    paces: &[PacedTime],
 ) -> Result<Bytes, Memory>
     requires few { CanBeSummed advice.now.works }
     requires some { All (λ pace. 0 < pace.workers) paces.now }

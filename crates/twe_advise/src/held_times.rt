@@ -3,7 +3,7 @@ ghost use Rattle.std.specs.Prelude.{◌≡◌, ◌==◌};
 ghost use Rattle.twe_advise.specs.HeldTimes.{held_time, hold_time};
 
 use held_span::Hold;
-use twe_machine::TaskRow;
+use machine_state::TaskRow;
 
 /// How long the task of a hold was held, if it is of the declaration with this number, and else 0.
 fn hold_time(rows: &[TaskRow], number: usize, hold: Hold) -> u64

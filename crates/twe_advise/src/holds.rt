@@ -9,9 +9,9 @@ use effect_sets::Effect;
 use held_span::{DeclaredEffect, HeldPair};
 use itoa::Buffer;
 use run_texts::task_name;
-use text_meaning::push_effect;
 use twe_ast::{Item, Name};
 use twe_base::{Bytes, Memory, Place, Word};
+use twe_frontend::push_effect;
 use twe_program::{Decl, Prog};
 
 /// Appends an effect, if there is one.

@@ -7,12 +7,13 @@ ghost use Rattle.twe_advise.specs.Json as json;
 ghost use Rattle.twe_advise.specs.Texts.{word_number};
 
 use crate::held_times::held_time;
-use crate::paces::Pace;
+use crate::paces::PacedTime;
 use crate::text::{push_hundredths, push_number};
 use held_span::Hold;
-use span_profile::{TaskTotal, TaskWork, least_time, parallelism_of, total_of};
+use machine_state::TaskRow;
+use schedules::least_time;
+use span_profile::{TaskTotal, TaskWork, parallelism_of, total_of};
 use twe_base::{Bytes, Memory};
-use twe_machine::TaskRow;
 use twe_program::Decl;
 
 /// Appends a word and a number.
@@ -41,7 +42,7 @@ pub(crate) fn push_json_held(text: &mut Bytes, span: u64, held: u64) -> Result<(
 }
 
 /// Appends the times with so many workers.
-fn push_json_time(text: &mut Bytes, work: u64, span: u64, pace: Pace) -> Result<(), Memory>
+fn push_json_time(text: &mut Bytes, work: u64, span: u64, pace: PacedTime) -> Result<(), Memory>
     requires { 0 < pace.workers }
     ensures { OnOk result (text.new ≡ text.old ++ json_time work span pace) }
 {
@@ -52,7 +53,7 @@ fn push_json_time(text: &mut Bytes, work: u64, span: u64, pace: Pace) -> Result<
 }
 
 /// Appends a comma, and the times with so many workers.
-fn push_next_time(text: &mut Bytes, work: u64, span: u64, pace: Pace) -> Result<(), Memory>
+fn push_next_time(text: &mut Bytes, work: u64, span: u64, pace: PacedTime) -> Result<(), Memory>
     requires { 0 < pace.workers }
     ensures { OnOk result (text.new ≡ text.old ++ json_next_time work span pace) }
 {
@@ -61,7 +62,12 @@ fn push_next_time(text: &mut Bytes, work: u64, span: u64, pace: Pace) -> Result<
 }
 
 /// Appends the times for each of these numbers of workers, each after a comma.
-fn push_next_times(text: &mut Bytes, work: u64, span: u64, paces: &[Pace]) -> Result<(), Memory>
+fn push_next_times(
+    text: &mut Bytes,
+    work: u64,
+    span: u64,
+    paces: &[PacedTime],
+) -> Result<(), Memory>
     requires { All (λ pace. 0 < pace.workers) paces.now }
     ensures { OnOk result (text.new ≡ text.old ++ flat_map (json_next_time work span) paces.now) }
 {
@@ -72,7 +78,7 @@ fn push_next_times(text: &mut Bytes, work: u64, span: u64, paces: &[Pace]) -> Re
 }
 
 /// Appends the times for each of these numbers of workers, with commas between them.
-fn push_paces(text: &mut Bytes, work: u64, span: u64, paces: &[Pace]) -> Result<(), Memory>
+fn push_paces(text: &mut Bytes, work: u64, span: u64, paces: &[PacedTime]) -> Result<(), Memory>
     requires { All (λ pace. 0 < pace.workers) paces.now }
     ensures { OnOk result (text.new ≡ text.old ++ json_paces work span paces.now) }
 {
@@ -90,7 +96,7 @@ pub(crate) fn push_json_times(
     text: &mut Bytes,
     work: u64,
     span: u64,
-    paces: &[Pace],
+    paces: &[PacedTime],
 ) -> Result<(), Memory>
     requires { All (λ pace. 0 < pace.workers) paces.now }
     ensures { OnOk result (text.new ≡ text.old ++ json_times work span paces.now) }

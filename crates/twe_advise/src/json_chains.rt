@@ -7,10 +7,10 @@ ghost use Rattle.twe_advise.specs.Texts.{word_number};
 use crate::chains::begin_of;
 use crate::json::{push_comma, push_small};
 use itoa::Buffer;
+use machine_state::TaskRow;
 use run_texts::{push_cell_path, push_listed_args, task_name};
 use span_profile::{ChainStep, LinkReason};
 use twe_base::{Bytes, Memory, Place};
-use twe_machine::TaskRow;
 use twe_program::Prog;
 
 /// Appends a word and the number of a task, a line or a column.

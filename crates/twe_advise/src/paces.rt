@@ -3,13 +3,13 @@ ghost use Rattle.std.specs.Prelude.{◌≡◌, ◌<◌, IfOk, length};
 ghost use Rattle.std.specs.List.{All};
 ghost use Rattle.twe_advise.specs.Paces.{ArePaces};
 
-use span_profile::paced_time;
+use schedules::paced_time;
 use std::alloc::Global;
 use twe_base::{List, Memory};
 
 /// How long a paced timetable takes.
 #[derive(Clone, Copy, Debug, PartialEq, Eq)]
-pub struct Pace {
+pub struct PacedTime {
     /// The number of workers.
     pub workers: u64,
     /// The time.
@@ -22,7 +22,7 @@ pub(crate) fn paces_of(
     starts: &[u64],
     ends: &[u64],
     counts: &[u64],
-) -> Result<List<Pace>, Memory>
+) -> Result<List<PacedTime>, Memory>
     requires some { All (λ count. 0 < count) counts.now }
     requires both { length ends.now ≡ length starts.now }
     ensures are { IfOk result (ArePaces starts.now ends.now counts.now) }
@@ -32,7 +32,7 @@ pub(crate) fn paces_of(
     for count in counts {
         let workers = *count;
         let time = paced_time(alloc, starts, ends, workers as usize)?;
-        paces.push(Pace { workers, time })?;
+        paces.push(PacedTime { workers, time })?;
     }
     Ok(paces)
 }

@@ -3,19 +3,19 @@ ghost use Rattle.twe_advise.specs.Answers.{AdviceDue, AdviceGiven};
 ghost use Rattle.twe_advise.specs.Words.{advise_usage_text, form_of};
 
 use crate::answering::advice_answer;
-use crate::request::{Request, declarations};
+use crate::request::{AdviceRequest, declarations};
 use crate::text::usage_text;
 use crate::words::{Form, form_of};
+use machine_state::ReplayFail;
 use seg_journal::{Limits, Move};
 use std::alloc::Global;
 use text_answers::{JournalProgram, answer_with_journal, cut_input};
 use twe_base::{Bytes, Memory, Word};
 use twe_io::Answer;
-use twe_machine::ReplayFail;
 use twe_program::Prog;
 use twe_report::TextProgram;
 
-impl JournalProgram for Request {
+impl JournalProgram for AdviceRequest {
     ghost gives = { λ request. AdviceGiven request.form request.items };
 
     fn answer_moves(
@@ -47,7 +47,7 @@ impl TextProgram for Form {
     fn answer_text(&self, alloc: Global, text: &[u8]) -> Result<Answer, Memory> {
         let (program, _) = cut_input(text);
         let items = declarations(alloc, program)?;
-        let request = Request { form: *self, items };
+        let request = AdviceRequest { form: *self, items };
         answer_with_journal(alloc, &request, text)
     }
 }

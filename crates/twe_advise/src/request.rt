@@ -10,7 +10,7 @@ use twe_frontend::{FrontFail, read_tree};
 
 /// The form in which advice is written, and the declarations of the text.
 #[derive(Debug, Drop)]
-pub(crate) struct Request {
+pub(crate) struct AdviceRequest {
     /// The form.
     pub form: Form,
     /// The declarations, in the order of the text.

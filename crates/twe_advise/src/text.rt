@@ -7,13 +7,14 @@ ghost use Rattle.twe_advise.specs.Texts as texts;
 ghost use Rattle.twe_advise.specs.Words.{advise_usage_text};
 
 use crate::held_times::held_time;
-use crate::paces::Pace;
+use crate::paces::PacedTime;
 use held_span::Hold;
 use itoa::Buffer;
-use span_profile::{TaskTotal, TaskWork, least_time, parallelism_of, total_of};
+use machine_state::TaskRow;
+use schedules::least_time;
+use span_profile::{TaskTotal, TaskWork, parallelism_of, total_of};
 use std::alloc::Global;
 use twe_base::{Bytes, Memory};
-use twe_machine::TaskRow;
 use twe_program::Decl;
 
 /// The usage line.
@@ -63,13 +64,17 @@ pub(crate) fn push_head(text: &mut Bytes, work: u64, span: u64) -> Result<(), Me
     text.push_all(b"\n")
 }
 
-/// Appends the held span, and how much longer it is than the span.
+/// Appends the held span, and how much longer than the span the order of admissions makes it.
 pub(crate) fn push_held(text: &mut Bytes, span: u64, held: u64) -> Result<(), Memory>
     ensures { OnOk result (text.new ≡ text.old ++ held_text span held) }
 {
     push_number(text, b"held span ", u128::from(held))?;
-    push_number(text, b", longer by ", u128::from(held.saturating_sub(span)))?;
-    text.push_all(b": what effects wider than the accesses cost, and running ahead could win\n")
+    push_number(
+        text,
+        b": the order of admissions adds ",
+        u128::from(held.saturating_sub(span)),
+    )?;
+    text.push_all(b"\n")
 }
 
 /// Appends a number of 64 bits at the right of a column.
@@ -80,7 +85,7 @@ pub(crate) fn push_small_column(text: &mut Bytes, number: u64) -> Result<(), Mem
 }
 
 /// Appends the row of so many workers.
-fn push_time(text: &mut Bytes, work: u64, span: u64, pace: Pace) -> Result<(), Memory>
+fn push_time(text: &mut Bytes, work: u64, span: u64, pace: PacedTime) -> Result<(), Memory>
     requires { 0 < pace.workers }
     ensures { OnOk result (text.new ≡ text.old ++ time_row work span pace) }
 {
@@ -91,7 +96,7 @@ fn push_time(text: &mut Bytes, work: u64, span: u64, pace: Pace) -> Result<(), M
 }
 
 /// Appends a row for each of these numbers of workers.
-fn push_times(text: &mut Bytes, work: u64, span: u64, paces: &[Pace]) -> Result<(), Memory>
+fn push_times(text: &mut Bytes, work: u64, span: u64, paces: &[PacedTime]) -> Result<(), Memory>
     requires { All (λ pace. 0 < pace.workers) paces.now }
     ensures { OnOk result (text.new ≡ text.old ++ flat_map (time_row work span) paces.now) }
 {
@@ -137,7 +142,7 @@ pub(crate) fn push_times_table(
     text: &mut Bytes,
     work: u64,
     span: u64,
-    paces: &[Pace],
+    paces: &[PacedTime],
 ) -> Result<(), Memory>
     requires { All (λ pace. 0 < pace.workers) paces.now }
     ensures { OnOk result (text.new ≡ text.old ++ times_text work span paces.now) }

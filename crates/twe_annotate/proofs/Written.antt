@@ -14,12 +14,12 @@ use Rattle.twe_io.specs.declared.status.Status.{Status}
 use Rattle.twe_io.specs.declared.status.Status.TheVariants.{Done, TooMany}
 use Rattle.effect_infer.specs.needs.Choices.{NoRuleFails, with_summaries}
 use Rattle.effect_infer.specs.Inferred.{AreEachLeast, AreLeast}
-use Rattle.text_meaning.specs.Meaning.{TextMeans}
+use Rattle.twe_frontend.specs.meaning.Meaning.{TextMeans}
 use Rattle.summary_texts.specs.Pasted.{IsPastedText}
 use Rattle.summary_texts.specs.Writable.{is_writable}
 use Rattle.twe_annotate.specs.Answers.{AnnotateDue, AreLeastOf}
 use Rattle.twe_annotate.specs.Kept.{kept_lines, named_line, write_status}
-use Rattle.twe_annotate.specs.declared.words.Request.TheVariants.{Write}
+use Rattle.twe_annotate.specs.declared.words.AnnotateRequest.TheVariants.{Write}
 
 -- the summaries of all methods
 some-at : (all : List Summary) (m : ℕ) (summary : Summary) → slice_get all m ≡ Some summary → slice_get (map Some all) m ≡ Some (Some summary)

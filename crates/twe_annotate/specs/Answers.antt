@@ -10,7 +10,7 @@ use Rattle.twe_io.specs.declared.status.Status.{Status}
 use Rattle.twe_io.specs.declared.status.Status.TheVariants.{Done, Refused, TooLong}
 use Rattle.twe_io.specs.Ends.{Ends, EndsTell, SourceTells}
 use Rattle.twe_io.specs.Answers.{IsAnswered, on_err, on_out}
-use Rattle.text_meaning.specs.Meaning.{TextMeans, IsRefusedBefore}
+use Rattle.twe_frontend.specs.meaning.Meaning.{TextMeans, IsRefusedBefore}
 use Rattle.twe_report.specs.Causes.{TextCause}
 use Rattle.effect_infer.specs.needs.Choices.{NoRuleFails, with_summaries}
 use Rattle.effect_infer.specs.Inferred.{AreEachLeast}
@@ -22,8 +22,8 @@ use Rattle.twe_annotate.specs.Compared.{compare_answer, unknown_text}
 use Rattle.twe_annotate.specs.Kept.{kept_lines, long_text, otherwise_text, write_status}
 use Rattle.twe_annotate.specs.Texts.{annotate_usage_text, matrix_lines}
 use Rattle.twe_annotate.specs.Words.{requested_by}
-use Rattle.twe_annotate.specs.declared.words.Request.{Request}
-use Rattle.twe_annotate.specs.declared.words.Request.TheVariants.{Matrix, Write, Compare, Explain}
+use Rattle.twe_annotate.specs.declared.words.AnnotateRequest.{AnnotateRequest}
+use Rattle.twe_annotate.specs.declared.words.AnnotateRequest.TheVariants.{Matrix, Write, Compare, Explain}
 
 -- These are the least summaries of the methods that have one. If each has one, a program that keeps every rule on effects keeps
 -- them with these summaries.
@@ -32,7 +32,7 @@ pub record AreLeastOf (p : Program) (each : List (Option Summary)) : Type 0 wher
   pub stays : (all : List Summary) → each ≡ map Some all → NoRuleFails p → NoRuleFails (with_summaries all p)
 
 -- The answer to a text that was read. Of the rules, only those of the text and of names count.
-pub data AnnotateDue (request : Request) (text : List ℕ) : Answer → Type 0 where
+pub data AnnotateDue (request : AnnotateRequest) (text : List ℕ) : Answer → Type 0 where
   -- the text fails one of them
   refused : (r : Refusal) → IsRefusedBefore text r → AnnotateDue request text (on_err Refused (refusal_text r))
   -- the matrix is asked for: a line for each two tasks

@@ -7,7 +7,7 @@ use Rattle.twe_ast.specs.declared.item.Decl as declared
 use Rattle.twe_ast.specs.declared.item.Item.{Item}
 use Rattle.twe_ast.specs.declared.item.Item.TheVariants.{Regions, Cell, Method, Task}
 use Rattle.twe_program.specs.declared.program.Decl.{Decl}
-use Rattle.text_meaning.specs.PathTexts.{parameter_at, starred_path_text}
+use Rattle.twe_frontend.specs.meaning.PathTexts.{parameter_at, starred_path_text}
 use Rattle.effect_meeting.specs.declared.equality.Term.{Term}
 use Rattle.effect_meeting.specs.declared.equality.Term.TheVariants.{Literal, First, Second}
 use Rattle.effect_meeting.specs.declared.equality.Equality.{Equality}

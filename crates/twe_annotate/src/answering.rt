@@ -1,24 +1,27 @@
 //! The answer to a text.
 ghost use Rattle.std.specs.Prelude.{IfOk};
 ghost use Rattle.twe_annotate.specs.Answers.{AnnotateDue};
-ghost use Rattle.twe_annotate.specs.declared.words.Request.TheVariants.{Matrix};
-ghost use Rattle.text_meaning.specs.Meaning.{IsRefusedBefore, TextMeans};
-ghost use Rattle.text_meaning.specs.Reading.{ReadingHasCause};
+ghost use Rattle.twe_annotate.specs.declared.words.AnnotateRequest.TheVariants.{Matrix};
+ghost use Rattle.twe_frontend.specs.meaning.Meaning.{IsRefusedBefore, TextMeans};
+ghost use Rattle.twe_frontend.specs.meaning.Reading.{ReadingHasCause};
 
 use crate::comparing::answer_compare;
 use crate::explaining::answer_explain;
 use crate::lines::matrix_lines;
-use crate::words::Request;
+use crate::words::AnnotateRequest;
 use crate::writing::answer_write;
 use std::alloc::Global;
-use text_meaning::{Meaning, read_meaning};
 use twe_base::Memory;
-use twe_frontend::{FrontFail, Refusal};
+use twe_frontend::{FrontFail, Meaning, Refusal, read_meaning};
 use twe_io::{Answer, Status};
 use twe_report::refusal_text;
 
 /// The answer to a text.
-pub(crate) fn answer_text(alloc: Global, request: &Request, text: &[u8]) -> Result<Answer, Memory>
+pub(crate) fn answer_text(
+    alloc: Global,
+    request: &AnnotateRequest,
+    text: &[u8],
+) -> Result<Answer, Memory>
     ensures { IfOk result (AnnotateDue request.now text.now) }
 {
     match read_meaning(alloc, text) {
@@ -30,7 +33,7 @@ pub(crate) fn answer_text(alloc: Global, request: &Request, text: &[u8]) -> Resu
 /// The answer to a text that could not be read.
 fn answer_fail(
     alloc: Global,
-    request: &Request,
+    request: &AnnotateRequest,
     text: &[u8],
     fail: &FrontFail,
 ) -> Result<Answer, Memory>
@@ -46,7 +49,7 @@ fn answer_fail(
 /// The answer to a text that has this refusal.
 fn answer_refusal(
     alloc: Global,
-    request: &Request,
+    request: &AnnotateRequest,
     text: &[u8],
     refusal: Refusal,
 ) -> Result<Answer, Memory>
@@ -76,7 +79,7 @@ fn answer_matrix(alloc: Global, text: &[u8], meaning: &Meaning) -> Result<Answer
 /// The answer to a text with this meaning.
 fn answer_meaning(
     alloc: Global,
-    request: &Request,
+    request: &AnnotateRequest,
     text: &[u8],
     meaning: Meaning,
 ) -> Result<Answer, Memory>
@@ -84,9 +87,9 @@ fn answer_meaning(
     ensures { IfOk result (AnnotateDue request.now text.now) }
 {
     match request {
-        Request::Matrix => answer_matrix(alloc, text, &meaning),
-        Request::Write => answer_write(alloc, text, meaning),
-        Request::Compare => answer_compare(alloc, text, meaning),
-        Request::Explain(name) => answer_explain(alloc, text, meaning, name),
+        AnnotateRequest::Matrix => answer_matrix(alloc, text, &meaning),
+        AnnotateRequest::Write => answer_write(alloc, text, meaning),
+        AnnotateRequest::Compare => answer_compare(alloc, text, meaning),
+        AnnotateRequest::Explain(name) => answer_explain(alloc, text, meaning, name),
     }
 }

@@ -1,14 +1,14 @@
 //! The answer if the declared summaries are compared with what is needed.
 ghost use Rattle.std.specs.Prelude.{◌≡◌, IfOk};
-ghost use Rattle.text_meaning.specs.Meaning.{TextMeans};
+ghost use Rattle.twe_frontend.specs.meaning.Meaning.{TextMeans};
 ghost use Rattle.twe_annotate.specs.Answers.{AnnotateDue};
 ghost use Rattle.twe_annotate.specs.Compared.{compare_answer, compare_status};
-ghost use Rattle.twe_annotate.specs.declared.words.Request.TheVariants.{Compare};
+ghost use Rattle.twe_annotate.specs.declared.words.AnnotateRequest.TheVariants.{Compare};
 
 use std::alloc::Global;
 use summary_comparing::{CompareLines, compare_lines};
-use text_meaning::Meaning;
 use twe_base::Memory;
+use twe_frontend::Meaning;
 use twe_io::{Answer, Status};
 
 /// The status, if these are the lines of declarations that need too many effects.

@@ -2,16 +2,16 @@
 ghost use Rattle.std.specs.Prelude.{◌≡◌, IfOk};
 ghost use Rattle.twe_io.specs.Answers.{on_err};
 ghost use Rattle.twe_io.specs.declared.status.Status.TheVariants.{Refused};
-ghost use Rattle.text_meaning.specs.Meaning.{TextMeans};
+ghost use Rattle.twe_frontend.specs.meaning.Meaning.{TextMeans};
 ghost use Rattle.twe_annotate.specs.Answers.{AnnotateDue};
 ghost use Rattle.twe_annotate.specs.Compared.{unknown_text};
-ghost use Rattle.twe_annotate.specs.declared.words.Request.TheVariants.{Explain};
+ghost use Rattle.twe_annotate.specs.declared.words.AnnotateRequest.TheVariants.{Explain};
 
 use crate::comparing::answer_lines;
 use std::alloc::Global;
 use summary_comparing::explain_lines;
-use text_meaning::Meaning;
 use twe_base::{Bytes, Memory, Word};
+use twe_frontend::Meaning;
 use twe_io::{Answer, Status};
 
 /// The line of a name that no method and no task has.

@@ -2,26 +2,16 @@
 ghost use Rattle.std.specs.Prelude.{◌≡◌, ◌++◌, IfOk, OnOk};
 ghost use Rattle.std.specs.List.{list_all};
 ghost use Rattle.std.specs.Option.{is_some};
-ghost use Rattle.twe_report.specs.Texts.{place_text};
 ghost use Rattle.twe_annotate.specs.Kept.{kept_line, kept_lines, named_line, unwritable_line, write_status};
 ghost use Rattle.twe_annotate.specs.Kept as texts;
 
 use effect_sets::Summary;
-use itoa::Buffer;
 use std::alloc::Global;
 use summary_texts::can_be_written;
 use twe_ast::{Item, Name};
-use twe_base::{Bytes, Memory, Place};
+use twe_base::{Bytes, Memory};
 use twe_io::Status;
-
-/// Appends a place, as `3:5`.
-fn push_place(text: &mut Bytes, place: Place) -> Result<(), Memory>
-    ensures { OnOk result (text.new ≡ text.old ++ place_text place) }
-{
-    text.push_all(Buffer::new().format(place.line).as_bytes())?;
-    text.push(b':')?;
-    text.push_all(Buffer::new().format(place.col).as_bytes())
-}
+use twe_report::push_place;
 
 /// Appends a line: these words, a name, and its place.
 fn push_named(text: &mut Bytes, words: &[u8], name: &Name) -> Result<(), Memory>

@@ -5,13 +5,13 @@ ghost use Rattle.twe_annotate.specs.Words.{requested_by};
 
 use crate::answering::answer_text;
 use crate::text::usage_text;
-use crate::words::{Request, requested_by};
+use crate::words::{AnnotateRequest, requested_by};
 use std::alloc::Global;
 use twe_base::{Bytes, Memory, Word};
 use twe_io::Answer;
 use twe_report::TextProgram;
 
-impl TextProgram for Request {
+impl TextProgram for AnnotateRequest {
     ghost asked = { requested_by };
 
     ghost usage = { annotate_usage_text };

@@ -1,16 +1,16 @@
 //! What a line says of two tasks.
 ghost use Rattle.std.specs.Prelude.{◌≡◌, ◌++◌, IfOk, OnOk, slice_get};
 ghost use Rattle.twe_annotate.specs.Texts.{always_place, always_text, equalities_text, equality_text, meeting_text, meetings_text, more_equalities, more_meetings, term_text, unless_text, verdict_text};
-ghost use Rattle.text_meaning.specs.PathTexts.{starred_path_text};
+ghost use Rattle.twe_frontend.specs.meaning.PathTexts.{starred_path_text};
 ghost use Rattle.twe_annotate.specs.Texts as texts;
 
 use effect_meeting::{Equality, Meeting, Term};
 use itoa::Buffer;
 use region_paths::Path;
 use std::alloc::Global;
-use text_meaning::{push_parameter, push_starred_path};
 use twe_ast::Name;
 use twe_base::{Bytes, Memory, Word};
+use twe_frontend::{push_parameter, push_starred_path};
 
 /// Appends a literal, a parameter of the first declaration, or one of the second with a prime.
 fn push_term(text: &mut Bytes, first: &[Name], second: &[Name], term: Term) -> Result<(), Memory>

@@ -2,7 +2,7 @@
 ghost use Rattle.twe_annotate.specs.Answers.{AnswersAnnotate};
 ghost use Rattle.twe_io.specs.Ends.{ends, ends_tell, sink, source};
 
-use crate::words::Request;
+use crate::words::AnnotateRequest;
 use std::alloc::Global;
 use twe_base::Word;
 use twe_io::{Sink, Source, Status};
@@ -23,5 +23,5 @@ pub fn annotate_top<S: Source, O: Sink, E: Sink>(
         (sink E.written E.faults E.write_gives))
         words.now (ends src.old out.old err.old) (ends src.new out.new err.new) result }
 {
-    run_text_program::<Request, S, O, E>(alloc, words, src, out, err)
+    run_text_program::<AnnotateRequest, S, O, E>(alloc, words, src, out, err)
 }

@@ -1,15 +1,15 @@
 //! The text with the least summaries of its methods.
 ghost use Rattle.std.specs.Prelude.{IfOk};
 ghost use Rattle.twe_annotate.specs.Answers.{AnnotateDue};
-ghost use Rattle.twe_annotate.specs.declared.words.Request.TheVariants.{Write};
-ghost use Rattle.text_meaning.specs.Meaning.{TextMeans};
+ghost use Rattle.twe_annotate.specs.declared.words.AnnotateRequest.TheVariants.{Write};
+ghost use Rattle.twe_frontend.specs.meaning.Meaning.{TextMeans};
 
 use crate::kept::{kept_lines, long_text, otherwise_text, write_status};
 use effect_infer::infer_each;
 use std::alloc::Global;
 use summary_texts::{PasteFail, paste_summaries};
-use text_meaning::Meaning;
 use twe_base::Memory;
+use twe_frontend::Meaning;
 use twe_io::{Answer, Status};
 
 /// The answer to a text with this meaning: the text with the least summaries, and a line for each method that keeps its clause.

@@ -7,8 +7,8 @@ use std::fmt;
 
 /// There was not enough memory. Every crate uses this error for it.
 ///
-/// It comes from a failed allocation, from a count at the end of its integer type, or from a text too long for 32 bits to
-/// count its bytes.
+/// It comes from an error of an allocation, from a count at the end of its integer type, or from a list of 2^32 - 1 items or
+/// more. No clause says that an allocation failed: any code can name an `AllocError`.
 #[derive(Clone, Copy, Debug, PartialEq, Eq)]
 pub struct Memory {
     shortage: Shortage,
@@ -24,7 +24,7 @@ enum Shortage {
 }
 
 impl Memory {
-    /// The error for a text of so many bytes that 32 bits cannot count them and the place after the last.
+    /// The error for a list of so many items that 32 bits cannot count them and the place after the last.
     pub fn of_uncountable<T>(items: &[T]) -> Self
         requires { 2 ^ 32 - 1 ≤ length items.now }
     {

@@ -1,5 +1,5 @@
 -- From what the parts of a call ensure to what it comes to.
-use Rattle.std.proofs.Common.{◌≡◌, ℕ, List, Option, Result, Ok, Err, None, Some, IfOk, refl}
+use Rattle.std.proofs.Common.{◌≡◌, ℕ, List, Option, Result, Ok, Err, None, IfOk, refl}
 use Rattle.twe_base.specs.declared.memory.Memory as out_of
 use Rattle.command_line.specs.declared.command.Command.{Command}
 use Rattle.command_line.specs.Words.{IsMeaning}
@@ -11,16 +11,9 @@ use Rattle.twe_io.specs.Ends.{Ends, EndsTell, SourceTells}
 use Rattle.twe_io.proofs.Answered.{is_answered}
 use Rattle.twe_report.specs.Texts.{usage_text}
 use Rattle.text_answers.specs.declared.book.Book.{Book}
-use Rattle.text_answers.specs.Causes.{Answers, Cause, CauseOfWords}
+use Rattle.text_answers.specs.Causes.{AnswersWords, CauseOfWords}
 use Rattle.text_answers.specs.Theorem.{IsNew}
 use Rattle.twe_cli.specs.inner.Given.{HasCauseInWords}
-
--- the answer to the command that the words mean
-pub cause_command : {S : Type 0} (tells : SourceTells S) (words : List (List ℕ)) (before after : S) (book : Book) (command : Command)
-    (made : Result Answer out_of.Memory) → IsMeaning words (Some command) → IfOk made (Cause tells command before after book)
-    → IfOk made (HasCauseInWords tells words before after book)
-cause_command tells words before after book command (Ok answer) means cause = (Some command, means, cause)
-cause_command tells words before after book command (Err memory) means cause = tt
 
 -- the answer to words that mean none
 pub cause_usage : {S : Type 0} (tells : SourceTells S) (words : List (List ℕ)) (src : S) (book : Book) (made : Result Answer out_of.Memory)
@@ -33,7 +26,7 @@ pub answers_words : {S O E : Type 0} (tells : EndsTell S O E) (words : List (Lis
     (made : Result Answer out_of.Memory) (status : Status) → (command : Option Command) × IsMeaning words command
     → IfOk made (HasCauseInWords tells.src words before.src after.src book)
     → TellsMade tells.out tells.err before.out after.out before.err after.err made status
-    → (command : Option Command) × IsMeaning words command × Answers tells usage_text command before after book status
+    → AnswersWords tells usage_text words before after book status
 answers_words tells words before after book (Ok answer) status meaning cause told =
     (cause.0, cause.1, is_answered tells (λ from to a. CauseOfWords tells.src usage_text cause.0 from to book a) before after (Ok answer) status cause.2 told)
 answers_words tells words before after book (Err memory) status meaning cause told =

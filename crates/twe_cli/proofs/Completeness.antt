@@ -1,5 +1,5 @@
 -- If nothing fails outside, a command has one of its statuses.
-use Rattle.std.proofs.Common.{◌≡◌, ◌≢◌, ◌<◌, ◌+◌, IfSome, inl, inr, ℕ, ℤ, List, [], ◌∷◌, length, cond, Option, None, Some, refl, sym, ap, ◌∙◌, subst, arith}
+use Rattle.std.proofs.Common.{◌≡◌, ◌≢◌, ◌<◌, ◌+◌, IfSome, inl, inr, ℕ, ℤ, List, [], ◌∷◌, length, cond, Option, None, Some, refl, sym, ap, ◌∙◌, subst, arith, true≢false}
 use Rattle.std.proofs.lemmas.Option.{none-some, same_Some}
 use Rattle.std.proofs.lemmas.List.{length-append}
 use Rattle.twe_io.specs.Faults.{Rose}
@@ -9,10 +9,10 @@ use Rattle.twe_base.specs.Limits.{Bounds}
 use Rattle.twe_program.specs.Program.{Program}
 use Rattle.twe_frontend.specs.declared.refusal.Refusal.{Refusal}
 use Rattle.twe_frontend.specs.Accepted.{Accepted, IsRefusal}
-use Rattle.twe_machine.specs.declared.ending.Outcome.{Outcome}
-use Rattle.twe_machine.specs.declared.ending.Outcome.TheVariants as outcomes
-use Rattle.twe_machine.specs.declared.state.State.{State}
-use Rattle.twe_machine.specs.Runs.{state_after}
+use Rattle.machine_state.specs.declared.ending.Outcome.{Outcome}
+use Rattle.machine_state.specs.declared.ending.Outcome.TheVariants as outcomes
+use Rattle.machine_state.specs.declared.state.State.{State}
+use Rattle.machine_state.specs.Runs.{state_after}
 use Rattle.command_line.specs.Words.{IsMeaning, Means}
 use Rattle.command_line.specs.declared.command.Command.{Command}
 use Rattle.command_line.specs.declared.command.Command.TheVariants.{Check, Run, Replay, Load}
@@ -27,7 +27,7 @@ use Rattle.text_answers.specs.Causes.{Answers, Cause}
 use Rattle.twe_io.specs.Codes.{is_status_done}
 use Rattle.twe_report.specs.Reading.{FailedRead}
 use Rattle.twe_report.specs.Texts as texts
-use Rattle.twe_cli.specs.Complete.{Completes, IsOneOf, IsComplete, IsInputFor, statuses_of}
+use Rattle.twe_cli.specs.Complete.{Completes, IsOneOf, IsComplete, IsInputFor, IsStatusOfReads, statuses_of}
 use Rattle.twe_io.specs.Ends.{Ends, EndsTell, SourceTells}
 use Rattle.text_answers.specs.Input.{program_text}
 
@@ -138,16 +138,38 @@ module _ (not_refused : (text : List ℕ) (p : Program) (refusal : Refusal) → 
       subst (λ (c : Command). IsComplete c input answer.status) (sym same)
       (load_complete workers n input answer.status (due_complete (Load workers n) [] book answer due))
 
+  -- the status of an answer, by what was read for it
+  status_of_reads : {S : Type 0} (tells : SourceTells S) (command : Command) (before after : S) (book : Book) (answer : Answer)
+      → Cause tells command before after book answer → ¬ Rose (tells.faults before) (tells.faults after)
+      → IsStatusOfReads tells command before after answer.status
+  status_of_reads tells command before after book answer (Cause.not_read has (FailedRead.read_fault was) new) calm = absurd (calm was.told)
+  status_of_reads tells command before after book answer (Cause.not_read has (FailedRead.too_long was) new) calm = IsStatusOfReads.too_long has was
+  status_of_reads tells command before after book answer (Cause.text bytes has was due) calm =
+      IsStatusOfReads.of_input bytes (λ _. was) (due_complete command bytes book answer due)
+  status_of_reads tells command before after book answer (Cause.no_input workers n same nothing never due) calm =
+      subst (λ (c : Command). IsStatusOfReads tells c before after answer.status) (sym same)
+      (IsStatusOfReads.of_input [] (λ has. absurd (true≢false (sym has))) (due_complete (Load workers n) [] book answer due))
+
   -- the status of a call that was answered
   pub complete : {S O E : Type 0} (tells : EndsTell S O E) (command : Command) (before after : Ends S O E) (book : Book) (status : Status)
       → IsAnswered tells (λ from to answer. Cause tells.src command from to book answer) before after status
       → Completes tells command before after status
-  complete tells command before after book status (IsAnswered.out_of_memory a b) = λ input calm is.
-      record { refused = λ r is. inr (inl refl); accepted = λ p is. memory_among command }
-  complete tells command before after book status (IsAnswered.answered {answer} cause (Tells.told a b)) = λ input calm is.
-      cause_complete tells.src command before.src after.src book answer input cause calm.no_read is
-  complete tells command before after book status (IsAnswered.answered cause (Tells.out_broke_off a b)) = λ input calm is. absurd (calm.no_out a.fault)
-  complete tells command before after book status (IsAnswered.answered cause (Tells.err_broke_off a b)) = λ input calm is. absurd (calm.no_err b.fault)
+  complete tells command before after book status (IsAnswered.out_of_memory a b) = record {
+    of_reads = λ calm. IsStatusOfReads.out_of_memory;
+    of_content = λ input calm is. record { refused = λ r is. inr (inl refl); accepted = λ p is. memory_among command };
+  }
+  complete tells command before after book status (IsAnswered.answered {answer} cause (Tells.told a b)) = record {
+    of_reads = λ calm. status_of_reads tells.src command before.src after.src book answer cause calm.no_read;
+    of_content = λ input calm is. cause_complete tells.src command before.src after.src book answer input cause calm.no_read is;
+  }
+  complete tells command before after book status (IsAnswered.answered cause (Tells.out_broke_off a b)) = record {
+    of_reads = λ calm. absurd (calm.no_out a.fault);
+    of_content = λ input calm is. absurd (calm.no_out a.fault);
+  }
+  complete tells command before after book status (IsAnswered.answered cause (Tells.err_broke_off a b)) = record {
+    of_reads = λ calm. absurd (calm.no_err b.fault);
+    of_content = λ input calm is. absurd (calm.no_err b.fault);
+  }
 
   -- the same, of the command that the words mean
   pub completes : {S O E : Type 0} (tells : EndsTell S O E) (words : List (List ℕ)) (usage : List ℕ) (before after : Ends S O E) (book : Book) (status : Status)

@@ -2,13 +2,13 @@
 //! input and writes its answer.
 #![tactic(auto)]
 
-mod carrying_out;
+mod answering;
 #[cfg(test)]
 mod tests;
 mod top;
 
-use run_gates::FreeGate;
 use std::process::ExitCode;
+use steal_pool::gates::FreeGate;
 use text_answers::Book;
 use top::twe;
 use twe_io::{Process, Status};

@@ -1,10 +1,10 @@
 //! What no run of the program shows: ends that fail, and workers that are at work at once. The rest is in `tests/twe/`.
 use crate::top::twe;
-use run_gates::{FreeGate, Gate, MeetGate};
 use std::alloc::Global;
 use std::sync::Wait;
 use std::test::Fail;
 use std::thread::Threads;
+use steal_pool::gates::{FreeGate, Gate, MeetGate};
 use text_answers::Book;
 use twe_base::{Bytes, Calls, Memory, Word};
 use twe_io::{MemSink, MemSource, PlainSink, PlainSource, Sink, Source};

@@ -3,16 +3,16 @@ use Rattle.std.proofs.Common.{◌≡◌, ◌++◌, ◌+◌, ◌-◌, ℕ, Bool, 
 use Rattle.std.specs.Prelude.{◌&&◌, codes, decimal, nat_lt}
 use Rattle.std.specs.List.{list_all}
 use Rattle.twe_program.specs.Program.{Program}
-use Rattle.twe_machine.specs.declared.state.TaskRow.{TaskRow}
+use Rattle.machine_state.specs.declared.state.TaskRow.{TaskRow}
 use Rattle.held_span.specs.declared.hold.Hold.{Hold}
-use Rattle.run_picture.specs.declared.bars.Mark.{Mark}
-use Rattle.run_picture.specs.Choice.{how_many}
-use Rattle.run_picture.specs.Rows.{rows_from}
-use Rattle.run_picture.specs.Elements.{Attribute, element, empty_element, valued}
-use Rattle.run_picture.specs.Markup.{IsDocument, IsMarkup, IsText, is_text_byte, is_value_byte}
-use Rattle.run_picture.specs.Shapes.{plain_box, title_element, words_at}
-use Rattle.run_picture.proofs.Nest.{plain_box_nests, title_nests, words_nest}
-use Rattle.run_picture.proofs.Values.{number_is_value}
+use Rattle.twe_draw.specs.declared.picture.bars.EntryBar.{EntryBar}
+use Rattle.twe_draw.specs.picture.Choice.{how_many}
+use Rattle.twe_draw.specs.picture.Rows.{rows_from}
+use Rattle.twe_draw.specs.picture.Elements.{Attribute, element, empty_element, valued}
+use Rattle.twe_draw.specs.picture.Markup.{IsDocument, IsMarkup, IsText, is_text_byte, is_value_byte}
+use Rattle.twe_draw.specs.picture.Shapes.{plain_box, title_element, words_at}
+use Rattle.twe_draw.proofs.picture.Nest.{plain_box_nests, title_nests, words_nest}
+use Rattle.twe_draw.proofs.picture.Values.{number_is_value}
 use Rattle.twe_draw.specs.declared.words.AxisKind.{AxisKind}
 use Rattle.twe_draw.specs.Head.{arrow_words, axis, axis_words, chain_colour, colour, deterministic_colour, entry_colours, head_key, held_colour, legend, opening_words, picture_head, rows_left_out, rows_left_out_words, run_words, titles}
 use Rattle.twe_draw.specs.Pages.{picture_shapes, picture_text}
@@ -164,7 +164,7 @@ whole h t s k x =
     (from_the_height h t s k x)
 
 pub picture_is_document : (kind : AxisKind) (p : Program) (shown : List Bool) (work span held : ℕ) (chain : List ℕ)
-    (bars : List Mark) (tasks : List TaskRow) (holds : List Hold)
+    (bars : List EntryBar) (tasks : List TaskRow) (holds : List Hold)
     → IsDocument (codes "svg") (picture_text kind p shown work span held chain bars tasks holds)
 unfolding picture_head
 picture_is_document kind p shown work span held chain bars tasks holds =

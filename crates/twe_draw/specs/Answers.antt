@@ -3,7 +3,7 @@ use Rattle.std.specs.Prelude.{ℕ, List}
 use Rattle.seg_journal.specs.declared.moves.Move.{Move}
 use Rattle.twe_base.specs.Limits.{Bounds}
 use Rattle.twe_program.specs.Program.{Program}
-use Rattle.twe_machine.specs.declared.state.TaskRow.{TaskRow}
+use Rattle.machine_state.specs.declared.state.TaskRow.{TaskRow}
 use Rattle.twe_report.specs.Causes.{TextCause}
 use Rattle.text_answers.specs.Due.{JournalDue}
 use Rattle.twe_io.specs.Ends.{Ends, EndsTell, SourceTells}
@@ -12,8 +12,8 @@ use Rattle.twe_io.specs.declared.answer.Answer.{Answer}
 use Rattle.twe_io.specs.declared.status.Status.{Status}
 use Rattle.twe_io.specs.declared.status.Status.TheVariants.{Done}
 use Rattle.held_span.specs.declared.hold.Hold.{Hold}
-use Rattle.run_picture.specs.Pictures.{IsPicture}
-use Rattle.run_picture.specs.declared.bars.Mark.{Mark}
+use Rattle.twe_draw.specs.picture.Pictures.{IsPicture}
+use Rattle.twe_draw.specs.declared.picture.bars.EntryBar.{EntryBar}
 use Rattle.twe_draw.specs.declared.words.Drawing.{Drawing}
 use Rattle.twe_draw.specs.Pages.{IsDrawing}
 use Rattle.twe_draw.specs.Words.{draw_usage_text, asked_drawing}
@@ -21,7 +21,7 @@ use Rattle.twe_draw.specs.Words.{draw_usage_text, asked_drawing}
 -- The answer, drawn so, to legal moves of an accepted program under these limits.
 pub data PictureGiven (drawing : Drawing) (p : Program) (lim : Bounds) (moves : List Move) : Answer → Type 0 where
   -- the run is drawn
-  drawn : (work span held : ℕ) (chain : List ℕ) (bars : List Mark) (tasks : List TaskRow) (holds : List Hold) (text : List ℕ)
+  drawn : (work span held : ℕ) (chain : List ℕ) (bars : List EntryBar) (tasks : List TaskRow) (holds : List Hold) (text : List ℕ)
       → IsPicture p lim moves work span held chain bars tasks holds
       → IsDrawing drawing p work span held chain bars tasks holds text
       → PictureGiven drawing p lim moves (on_out Done text)

@@ -1,7 +1,7 @@
 -- What stands above the rows of a picture.
 use Rattle.std.specs.Prelude.{◌+◌, ◌-◌, ◌/◌, ◌%◌, ◌++◌, ℕ, List, [], codes, decimal, if◌then◌else◌, nat_lt}
 use Rattle.span_profile.specs.Advice.{parallelism_of}
-use Rattle.run_picture.specs.Shapes.{plain_box, title_element, words_at}
+use Rattle.twe_draw.specs.picture.Shapes.{plain_box, title_element, words_at}
 use Rattle.twe_draw.specs.declared.words.AxisKind.{AxisKind}
 use Rattle.twe_draw.specs.declared.words.AxisKind.TheVariants.{Time, Order}
 use Rattle.twe_draw.specs.Numbers.{with_number}

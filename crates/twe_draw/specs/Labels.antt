@@ -3,11 +3,11 @@ use Rattle.std.specs.Prelude.{◌++◌, ℕ, List, [], Option, None, Some, codes
 use Rattle.seg_journal.specs.declared.journal.End.{End}
 use Rattle.seg_journal.specs.declared.journal.End.TheVariants as ends
 use Rattle.twe_program.specs.Program.{Program}
-use Rattle.twe_machine.specs.declared.state.TaskRow.{TaskRow}
-use Rattle.text_meaning.specs.EffectTexts.{effects_text}
+use Rattle.machine_state.specs.declared.state.TaskRow.{TaskRow}
+use Rattle.twe_frontend.specs.meaning.EffectTexts.{effects_text}
 use Rattle.run_texts.specs.TaskLabels.{decl_place_text, task_call}
 use Rattle.held_span.specs.declared.hold.Hold.{Hold}
-use Rattle.run_picture.specs.declared.bars.Mark.{Mark}
+use Rattle.twe_draw.specs.declared.picture.bars.EntryBar.{EntryBar}
 use Rattle.twe_draw.specs.Numbers.{with_number}
 
 -- a task with the place of its declaration and its effects, as `3 walk(1) of 4:6, writes A:[1]`
@@ -31,13 +31,13 @@ end_words (ends.Done value) = codes ": is done"
 end_words (ends.Fault kind place) = codes ": meets a fault"
 
 -- the number of an entry, and when it begins and ends, as `entry 4, 6 to 7, `
-abbrev pub entry_words : Mark → List ℕ
+abbrev pub entry_words : EntryBar → List ℕ
 entry_words bar =
     with_number (codes "entry ") bar.number
     ++ (with_number (codes ", ") bar.begins ++ (with_number (codes " to ") bar.ends ++ codes ", "))
 
 -- what a bar tells: its entry, its task, and how the entry ended
-abbrev pub bar_title : Program → List TaskRow → Mark → List ℕ
+abbrev pub bar_title : Program → List TaskRow → EntryBar → List ℕ
 bar_title p tasks bar = entry_words bar ++ (details_found p (slice_get tasks bar.task) ++ end_words bar.end)
 
 -- the label of a task that was looked up
@@ -52,7 +52,7 @@ awaited_words p tasks (ends.Joins on) = codes ": joins " ++ label_found p (slice
 awaited_words p tasks _ = []
 
 -- what a grey box tells after this bar: its task, and whom that waits for
-abbrev pub wait_title : Program → List TaskRow → Mark → List ℕ
+abbrev pub wait_title : Program → List TaskRow → EntryBar → List ℕ
 wait_title p tasks bar = label_found p (slice_get tasks bar.task) ++ awaited_words p tasks bar.end
 
 -- who held a task, as `: is held by 3 inc(1)`

@@ -12,3 +12,4 @@ pub mod Held
 pub mod Trace
 pub mod Pages
 pub mod Answers
+pub mod picture

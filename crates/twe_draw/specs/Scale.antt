@@ -2,23 +2,23 @@
 -- right.
 use Rattle.std.specs.Prelude.{◌+◌, ◌-◌, ◌*◌, ◌/◌, ℕ, List, Option, None, Some, length, max, min}
 use Rattle.held_span.specs.declared.hold.Hold.{Hold}
-use Rattle.run_picture.specs.declared.bars.Mark.{Mark}
+use Rattle.twe_draw.specs.declared.picture.bars.EntryBar.{EntryBar}
 use Rattle.twe_draw.specs.declared.scale.Axis.{Axis}
 use Rattle.twe_draw.specs.declared.words.AxisKind.{AxisKind}
 use Rattle.twe_draw.specs.declared.words.AxisKind.TheVariants.{Time, Order}
 
 -- the axis of a picture: it is as long as the held span, or has a column for each entry
-abbrev pub axis_of : AxisKind → ℕ → List Mark → Axis
+abbrev pub axis_of : AxisKind → ℕ → List EntryBar → Axis
 axis_of Time held bars = record { kind = Time; length = held }
 axis_of Order held bars = record { kind = Order; length = length bars }
 
 -- when the entry of a bar begins, or its column
-abbrev pub bar_begin : AxisKind → Mark → ℕ
+abbrev pub bar_begin : AxisKind → EntryBar → ℕ
 bar_begin Time bar = bar.begins
 bar_begin Order bar = bar.number
 
 -- when the entry of a bar ends, or the next column
-abbrev pub bar_end : AxisKind → Mark → ℕ
+abbrev pub bar_end : AxisKind → EntryBar → ℕ
 bar_end Time bar = bar.ends
 bar_end Order bar = bar.number + 1
 
@@ -29,7 +29,7 @@ column_after (Some number) = number + 1
 
 -- since when the admission of a bar was held: the time of the hold before it, or the column after that of the entry that made
 -- its task
-abbrev pub held_begin : AxisKind → Mark → Hold → ℕ
+abbrev pub held_begin : AxisKind → EntryBar → Hold → ℕ
 held_begin Time bar hold = bar.begins - hold.time
 held_begin Order bar hold = column_after bar.previous
 

@@ -2,37 +2,37 @@
 -- most work.
 use Rattle.std.specs.Prelude.{◌+◌, ℕ, Bool, true, false, List, Option, None, Some, if◌then◌else◌, length, nat_lt, replicate, slice_get, slice_index, slice_set}
 use Rattle.std.specs.List.{fold}
-use Rattle.twe_machine.specs.declared.state.TaskRow.{TaskRow}
-use Rattle.run_picture.specs.Bars.{bar_length}
-use Rattle.run_picture.specs.declared.bars.Mark.{Mark}
-use Rattle.run_picture.specs.Choice.{AreShown}
+use Rattle.machine_state.specs.declared.state.TaskRow.{TaskRow}
+use Rattle.twe_draw.specs.picture.Bars.{bar_length}
+use Rattle.twe_draw.specs.declared.picture.bars.EntryBar.{EntryBar}
+use Rattle.twe_draw.specs.picture.Choice.{AreShown}
 
 -- how many tasks have a row at most, if no more are of the heaviest chain
 abbrev pub most_rows : ℕ
 most_rows = 200
 
 -- the works of the tasks, with that of an entry of one of them
-abbrev pub with_entry_work : List ℕ → Mark → List ℕ
+abbrev pub with_entry_work : List ℕ → EntryBar → List ℕ
 with_entry_work works bar =
     if nat_lt bar.task (length works)
     then slice_set works bar.task (slice_index works bar.task + bar_length bar)
     else works
 
 -- the work of each of so many tasks: what its entries weigh in all
-abbrev pub works_of : ℕ → List Mark → List ℕ
+abbrev pub works_of : ℕ → List EntryBar → List ℕ
 works_of tasks bars = fold with_entry_work (replicate tasks 0) bars
 
 -- the flags of tasks, with that of the task of an entry that was looked up
-abbrev pub with_flag : List Bool → Option Mark → List Bool
+abbrev pub with_flag : List Bool → Option EntryBar → List Bool
 with_flag flags None = flags
 with_flag flags (Some bar) = if nat_lt bar.task (length flags) then slice_set flags bar.task true else flags
 
 -- whether each of so many tasks has an entry of the chain
-abbrev pub chain_flags : ℕ → List ℕ → List Mark → List Bool
+abbrev pub chain_flags : ℕ → List ℕ → List EntryBar → List Bool
 chain_flags tasks chain bars = fold (λ flags number. with_flag flags (slice_get bars number)) (replicate tasks false) chain
 
 -- these tasks are shown
-abbrev pub AreShownTasks : List ℕ → List Mark → List TaskRow → List Bool → Type 0
+abbrev pub AreShownTasks : List ℕ → List EntryBar → List TaskRow → List Bool → Type 0
 AreShownTasks chain bars tasks shown =
     AreShown most_rows (works_of (length tasks) bars) (chain_flags (length tasks) chain bars) shown
 

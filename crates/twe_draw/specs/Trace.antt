@@ -7,9 +7,9 @@ use Rattle.serde_json.specs.Written.{compact_text}
 use Rattle.seg_journal.specs.declared.journal.End.{End}
 use Rattle.seg_journal.specs.declared.journal.End.TheVariants as ends
 use Rattle.twe_program.specs.Program.{Program}
-use Rattle.twe_machine.specs.declared.state.TaskRow.{TaskRow}
+use Rattle.machine_state.specs.declared.state.TaskRow.{TaskRow}
 use Rattle.run_texts.specs.TaskLabels.{decl_name}
-use Rattle.run_picture.specs.declared.bars.Mark.{Mark}
+use Rattle.twe_draw.specs.declared.picture.bars.EntryBar.{EntryBar}
 use Rattle.twe_draw.specs.Bars.{class_of}
 
 -- the name of the declaration of a row
@@ -40,12 +40,12 @@ row_event p row = object
     (member (codes "tid") (number (unsigned row.frame.task)) no_members)))))
 
 -- what is told of an entry: how it ended, and its number
-abbrev pub entry_args : Mark → Data
+abbrev pub entry_args : EntryBar → Data
 entry_args bar = object
     (member (codes "end") (string (end_name bar.end)) (member (codes "entry") (number (unsigned bar.number)) no_members))
 
 -- an entry, from its beginning on, as long as it takes, in the row of its task
-abbrev pub bar_event : Program → List TaskRow → Mark → Data
+abbrev pub bar_event : Program → List TaskRow → EntryBar → Data
 bar_event p tasks bar = object
     (member (codes "args") (entry_args bar)
     (member (codes "cat") (string (class_of p (slice_get tasks bar.task) bar.kind))
@@ -57,11 +57,11 @@ bar_event p tasks bar = object
     (member (codes "ts") (number (unsigned bar.begins)) no_members))))))))
 
 -- the events of a run: the names of its rows, and its entries
-abbrev pub trace_data : Program → List Mark → List TaskRow → Data
+abbrev pub trace_data : Program → List EntryBar → List TaskRow → Data
 trace_data p bars tasks = array (items_of (map (row_event p) tasks ++ map (bar_event p tasks) bars))
 
 -- The text is the JSON of the events of a run, without spaces, and the end of a line. The JSON reads back to the events.
-pub record IsTrace (p : Program) (bars : List Mark) (tasks : List TaskRow) (text : List ℕ) : Type 0 where
+pub record IsTrace (p : Program) (bars : List EntryBar) (tasks : List TaskRow) (text : List ℕ) : Type 0 where
   pub json : List ℕ
   pub text_is : text ≡ json ++ 10 ∷ []
   pub json_is : json ≡ compact_text (trace_data p bars tasks)

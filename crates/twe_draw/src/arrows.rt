@@ -3,9 +3,9 @@ ghost use Rattle.std.specs.Prelude.{◌≡◌, ◌++◌, OnOk, Some, option_and_
 ghost use Rattle.std.specs.List.{flat_map};
 ghost use Rattle.twe_draw.specs.Arrows.{arrow, arrows_placed, arrows_shown, made_arrow, made_placed, taken_arrow, taken_placed};
 
+use crate::picture::{EntryBar, push_upright};
 use crate::scale::{Axis, bar_begin, bar_end, row_bottom, row_top, time_column};
 use crate::shown::row_at;
-use run_picture::{Mark, push_upright};
 use seg_journal::End;
 use std::alloc::Global;
 use twe_base::{Bytes, Memory};
@@ -33,7 +33,7 @@ fn push_made_placed(
     text: &mut Bytes,
     alloc: Global,
     axis: Axis,
-    bar: &Mark,
+    bar: &EntryBar,
     row: u64,
     child: Option<u64>,
 ) -> Result<(), Memory>
@@ -54,7 +54,7 @@ fn push_made(
     alloc: Global,
     rows: &[Option<u64>],
     axis: Axis,
-    bar: &Mark,
+    bar: &EntryBar,
     row: u64,
 ) -> Result<(), Memory>
     ensures { OnOk result (text.new ≡ text.old ++ made_arrow rows.now axis bar.now row bar.now.end) }
@@ -72,7 +72,7 @@ fn push_taken_placed(
     text: &mut Bytes,
     alloc: Global,
     axis: Axis,
-    bar: &Mark,
+    bar: &EntryBar,
     giver: Option<u64>,
     row: u64,
 ) -> Result<(), Memory>
@@ -91,10 +91,10 @@ fn push_taken_placed(
 fn push_taken(
     text: &mut Bytes,
     alloc: Global,
-    bars: &[Mark],
+    bars: &[EntryBar],
     rows: &[Option<u64>],
     axis: Axis,
-    bar: &Mark,
+    bar: &EntryBar,
     row: u64,
 ) -> Result<(), Memory>
     ensures { OnOk result (text.new ≡ text.old
@@ -115,10 +115,10 @@ fn push_taken(
 fn push_arrows_placed(
     text: &mut Bytes,
     alloc: Global,
-    bars: &[Mark],
+    bars: &[EntryBar],
     rows: &[Option<u64>],
     axis: Axis,
-    bar: &Mark,
+    bar: &EntryBar,
     row: Option<u64>,
 ) -> Result<(), Memory>
     ensures { OnOk result (text.new ≡ text.old ++ arrows_placed bars.now rows.now axis bar.now row) }
@@ -136,10 +136,10 @@ fn push_arrows_placed(
 fn push_arrows_shown(
     text: &mut Bytes,
     alloc: Global,
-    bars: &[Mark],
+    bars: &[EntryBar],
     rows: &[Option<u64>],
     axis: Axis,
-    bar: &Mark,
+    bar: &EntryBar,
 ) -> Result<(), Memory>
     ensures { OnOk result (text.new ≡ text.old ++ arrows_shown bars.now rows.now axis bar.now) }
 {
@@ -150,7 +150,7 @@ fn push_arrows_shown(
 pub(crate) fn push_arrows(
     text: &mut Bytes,
     alloc: Global,
-    bars: &[Mark],
+    bars: &[EntryBar],
     rows: &[Option<u64>],
     axis: Axis,
 ) -> Result<(), Memory>

@@ -5,14 +5,14 @@ ghost use Rattle.run_texts.specs.TaskLabels.{task_call};
 ghost use Rattle.twe_draw.specs.Bars.{bar_placed, bar_shape, bar_shown, class_of, is_deterministic_row, is_waiting, outline, outline_placed, row_placed, row_shape, row_shown, wait_shape, wait_since};
 
 use crate::labels::{bar_title, wait_title};
+use crate::picture::{EntryBar, push_plain_box, push_row_line, push_titled_box, push_words_at};
 use crate::scale::{Axis, bar_begin, bar_end, row_bottom, row_top, time_column, time_width};
 use crate::shown::row_at;
-use run_picture::{Mark, push_plain_box, push_row_line, push_titled_box, push_words_at};
+use machine_state::TaskRow;
 use run_texts::push_task_call;
 use seg_journal::{End, Kind};
 use std::alloc::Global;
 use twe_base::{Bytes, Memory};
-use twe_machine::TaskRow;
 use twe_program::Prog;
 
 /// The label of a task.
@@ -99,7 +99,7 @@ fn is_deterministic(p: &Prog, tasks: &[TaskRow], task: u32) -> bool
 }
 
 /// The class of a bar.
-pub(crate) fn class_of<'a>(p: &Prog, tasks: &[TaskRow], bar: &Mark) -> &'a str
+pub(crate) fn class_of<'a>(p: &Prog, tasks: &[TaskRow], bar: &EntryBar) -> &'a str
     ensures { result.now ≡ class_of p.now (slice_get tasks.now bar.now.task) bar.now.kind }
 {
     match bar.kind {
@@ -121,7 +121,7 @@ fn push_bar(
     p: &Prog,
     tasks: &[TaskRow],
     axis: Axis,
-    bar: &Mark,
+    bar: &EntryBar,
     row: u64,
 ) -> Result<(), Memory>
     ensures { OnOk result (text.new ≡ text.old ++ bar_shape p.now tasks.now axis bar.now row) }
@@ -153,9 +153,9 @@ fn push_wait_since(
     p: &Prog,
     tasks: &[TaskRow],
     axis: Axis,
-    bar: &Mark,
+    bar: &EntryBar,
     row: u64,
-    before: &Mark,
+    before: &EntryBar,
 ) -> Result<(), Memory>
     ensures { OnOk result (text.new ≡ text.old ++ wait_since p.now tasks.now axis bar.now row (Some before.now)) }
 {
@@ -182,9 +182,9 @@ fn push_wait(
     alloc: Global,
     p: &Prog,
     tasks: &[TaskRow],
-    bars: &[Mark],
+    bars: &[EntryBar],
     axis: Axis,
-    bar: &Mark,
+    bar: &EntryBar,
     row: u64,
 ) -> Result<(), Memory>
     ensures { OnOk result (text.new ≡ text.old ++ wait_shape p.now tasks.now bars.now axis bar.now row) }
@@ -204,9 +204,9 @@ fn push_bar_placed(
     alloc: Global,
     p: &Prog,
     tasks: &[TaskRow],
-    bars: &[Mark],
+    bars: &[EntryBar],
     axis: Axis,
-    bar: &Mark,
+    bar: &EntryBar,
     row: Option<u64>,
 ) -> Result<(), Memory>
     ensures { OnOk result (text.new ≡ text.old ++ bar_placed p.now tasks.now bars.now axis bar.now row) }
@@ -226,10 +226,10 @@ fn push_bar_shown(
     alloc: Global,
     p: &Prog,
     tasks: &[TaskRow],
-    bars: &[Mark],
+    bars: &[EntryBar],
     rows: &[Option<u64>],
     axis: Axis,
-    bar: &Mark,
+    bar: &EntryBar,
 ) -> Result<(), Memory>
     ensures { OnOk result (text.new ≡ text.old ++ bar_shown p.now tasks.now bars.now rows.now axis bar.now) }
 {
@@ -251,7 +251,7 @@ pub(crate) fn push_bars(
     alloc: Global,
     p: &Prog,
     tasks: &[TaskRow],
-    bars: &[Mark],
+    bars: &[EntryBar],
     rows: &[Option<u64>],
     axis: Axis,
 ) -> Result<(), Memory>
@@ -267,7 +267,7 @@ pub(crate) fn push_bars(
 fn push_outline_placed(
     text: &mut Bytes,
     axis: Axis,
-    bar: &Mark,
+    bar: &EntryBar,
     row: Option<u64>,
 ) -> Result<(), Memory>
     ensures { OnOk result (text.new ≡ text.old ++ outline_placed axis bar.now row) }
@@ -290,7 +290,7 @@ fn push_outline_placed(
 /// Appends the outline of the bar of the entry of this number.
 fn push_outline(
     text: &mut Bytes,
-    bars: &[Mark],
+    bars: &[EntryBar],
     rows: &[Option<u64>],
     axis: Axis,
     number: u64,
@@ -306,7 +306,7 @@ fn push_outline(
 /// Appends the outlines of the bars of these entries.
 pub(crate) fn push_outlines(
     text: &mut Bytes,
-    bars: &[Mark],
+    bars: &[EntryBar],
     rows: &[Option<u64>],
     axis: Axis,
     chain: &[u64],

@@ -3,11 +3,11 @@ ghost use Rattle.std.specs.Prelude.{◌≡◌, ◌++◌, ◌<◌, IfOk, OnOk};
 ghost use Rattle.twe_draw.specs.Head.{arrow_words, axis, axis_words, chain_colour, colour, deterministic_colour, entry_colours, head_key, head_top, held_colour, hundredths, rows_left_out, rows_left_out_words, legend, opening, opening_words, parallelism_after, parallelism_words, picture_head, run_words, titles, total_words};
 
 use crate::numbers::{push_number, push_wide};
+use crate::picture::{push_plain_box, push_title_element, push_words_at};
 use crate::scale::picture_height;
 use crate::style::push_setting;
 use crate::words::AxisKind;
 use itoa::Buffer;
-use run_picture::{push_plain_box, push_title_element, push_words_at};
 use span_profile::parallelism_of;
 use std::alloc::Global;
 use twe_base::{Bytes, Memory};

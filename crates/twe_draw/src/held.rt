@@ -4,13 +4,13 @@ ghost use Rattle.std.specs.List.{flat_map};
 ghost use Rattle.twe_draw.specs.Held.{held_box, held_placed, held_shown};
 
 use crate::labels::held_title;
+use crate::picture::{EntryBar, push_titled_box};
 use crate::scale::{Axis, bar_begin, held_begin, row_top, time_column, time_width};
 use crate::shown::row_at;
 use held_span::Hold;
-use run_picture::{Mark, push_titled_box};
+use machine_state::TaskRow;
 use std::alloc::Global;
 use twe_base::{Bytes, Memory};
-use twe_machine::TaskRow;
 use twe_program::Prog;
 
 /// Appends the box of a hold, before the bar of its admission.
@@ -21,7 +21,7 @@ fn push_held_box(
     tasks: &[TaskRow],
     axis: Axis,
     hold: &Hold,
-    bar: &Mark,
+    bar: &EntryBar,
     row: u64,
 ) -> Result<(), Memory>
     ensures { OnOk result (text.new ≡ text.old ++ held_box p.now tasks.now axis hold.now bar.now row) }
@@ -47,7 +47,7 @@ fn push_held_placed(
     tasks: &[TaskRow],
     axis: Axis,
     hold: &Hold,
-    bar: &Mark,
+    bar: &EntryBar,
     row: Option<u64>,
 ) -> Result<(), Memory>
     ensures { OnOk result (text.new ≡ text.old ++ held_placed p.now tasks.now axis hold.now bar.now row) }
@@ -64,7 +64,7 @@ fn push_held(
     alloc: Global,
     p: &Prog,
     tasks: &[TaskRow],
-    bars: &[Mark],
+    bars: &[EntryBar],
     rows: &[Option<u64>],
     axis: Axis,
     hold: &Hold,
@@ -92,7 +92,7 @@ pub(crate) fn push_holds(
     alloc: Global,
     p: &Prog,
     tasks: &[TaskRow],
-    bars: &[Mark],
+    bars: &[EntryBar],
     rows: &[Option<u64>],
     axis: Axis,
     holds: &[Hold],

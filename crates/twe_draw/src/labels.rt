@@ -4,14 +4,14 @@ ghost use Rattle.run_texts.specs.TaskLabels.{task_call};
 ghost use Rattle.twe_draw.specs.Labels.{awaited_words, bar_title, label_found, wait_title, details_found, end_words, entry_words, held_title, held_words, holder_words, task_details};
 
 use crate::numbers::{push_number, push_small};
+use crate::picture::EntryBar;
 use held_span::Hold;
-use run_picture::Mark;
+use machine_state::TaskRow;
 use run_texts::{push_decl_place, push_task_call};
 use seg_journal::End;
 use std::alloc::Global;
-use text_meaning::push_effects;
 use twe_base::{Bytes, Memory};
-use twe_machine::TaskRow;
+use twe_frontend::push_effects;
 use twe_program::Prog;
 
 /// Appends a task with the place of its declaration and its effects.
@@ -54,7 +54,7 @@ fn push_end(text: &mut Bytes, end: End) -> Result<(), Memory>
 }
 
 /// Appends the number of an entry, and when it begins and ends.
-fn push_entry(text: &mut Bytes, bar: &Mark) -> Result<(), Memory>
+fn push_entry(text: &mut Bytes, bar: &EntryBar) -> Result<(), Memory>
     ensures { OnOk result (text.new ≡ text.old ++ entry_words bar.now) }
 {
     push_number(text, b"entry ", bar.number)?;
@@ -68,7 +68,7 @@ pub(crate) fn bar_title(
     alloc: Global,
     p: &Prog,
     tasks: &[TaskRow],
-    bar: &Mark,
+    bar: &EntryBar,
 ) -> Result<Bytes, Memory>
     ensures { IfOk result (λ title. title ≡ bar_title p.now tasks.now bar.now) }
 {
@@ -119,7 +119,7 @@ pub(crate) fn wait_title(
     alloc: Global,
     p: &Prog,
     tasks: &[TaskRow],
-    bar: &Mark,
+    bar: &EntryBar,
 ) -> Result<Bytes, Memory>
     ensures { IfOk result (λ title. title ≡ wait_title p.now tasks.now bar.now) }
 {

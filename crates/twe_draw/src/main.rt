@@ -10,6 +10,7 @@ mod labels;
 mod laws;
 mod numbers;
 mod page;
+mod picture;
 mod program;
 mod scale;
 mod shown;

@@ -3,14 +3,14 @@ ghost use Rattle.twe_draw.specs.Answers.{PictureDue, PictureGiven};
 ghost use Rattle.twe_draw.specs.Words.{asked_drawing, draw_usage_text};
 
 use crate::page::drawing_text;
+use crate::picture::draw;
 use crate::words::{Drawing, asked_drawing, usage_text};
-use run_picture::draw;
+use machine_state::ReplayFail;
 use seg_journal::{Limits, Move};
 use std::alloc::Global;
 use text_answers::{JournalProgram, answer_with_journal};
 use twe_base::{Bytes, Memory, Word};
 use twe_io::{Answer, Status};
-use twe_machine::ReplayFail;
 use twe_program::Prog;
 use twe_report::TextProgram;
 

@@ -2,9 +2,9 @@
 ghost use Rattle.std.specs.Prelude.{◌≡◌};
 ghost use Rattle.twe_draw.specs.Scale as scale;
 
+use crate::picture::EntryBar;
 use crate::words::AxisKind;
 use held_span::Hold;
-use run_picture::Mark;
 
 /// The axis of a picture, from its left to its right.
 #[derive(Clone, Copy, Debug)]
@@ -16,7 +16,7 @@ pub struct Axis {
 }
 
 /// The axis of a picture: it is as long as the held span, or has a column for each entry.
-pub(crate) fn axis_of(kind: AxisKind, held: u64, bars: &[Mark]) -> Axis
+pub(crate) fn axis_of(kind: AxisKind, held: u64, bars: &[EntryBar]) -> Axis
     ensures { result ≡ scale.axis_of kind held bars.now }
 {
     let length = match kind {
@@ -27,7 +27,7 @@ pub(crate) fn axis_of(kind: AxisKind, held: u64, bars: &[Mark]) -> Axis
 }
 
 /// When the entry of a bar begins, or its column.
-pub(crate) fn bar_begin(kind: AxisKind, bar: &Mark) -> u128
+pub(crate) fn bar_begin(kind: AxisKind, bar: &EntryBar) -> u128
     ensures { result ≡ scale.bar_begin kind bar.now }
 {
     match kind {
@@ -37,7 +37,7 @@ pub(crate) fn bar_begin(kind: AxisKind, bar: &Mark) -> u128
 }
 
 /// When the entry of a bar ends, or the next column.
-pub(crate) fn bar_end(kind: AxisKind, bar: &Mark) -> u128
+pub(crate) fn bar_end(kind: AxisKind, bar: &EntryBar) -> u128
     ensures { result ≡ scale.bar_end kind bar.now }
 {
     match kind {
@@ -57,7 +57,7 @@ fn column_after(number: Option<u64>) -> u128
 }
 
 /// Since when the admission of a bar was held, or the column after that of the entry that made its task.
-pub(crate) fn held_begin(kind: AxisKind, bar: &Mark, hold: &Hold) -> u128
+pub(crate) fn held_begin(kind: AxisKind, bar: &EntryBar, hold: &Hold) -> u128
     ensures { result ≡ scale.held_begin kind bar.now hold.now }
 {
     match kind {

@@ -1,12 +1,12 @@
 //! Which tasks a picture shows.
 ghost use Rattle.std.specs.Prelude.{◌≡◌, ◌<◌, ◌-◌, ◌^◌, ℕ, IfOk, Some, length, slice_get, slice_index};
-ghost use Rattle.run_picture.specs.Bars.{bar_length};
+ghost use Rattle.twe_draw.specs.picture.Bars.{bar_length};
 ghost use Rattle.twe_draw.specs.Shown.{AreShownTasks, chain_flags, row_at, with_flag, with_entry_work, works_of};
 
-use run_picture::{Mark, choose_rows};
+use crate::picture::{EntryBar, choose_rows};
+use machine_state::TaskRow;
 use std::alloc::Global;
 use twe_base::{List, Memory};
-use twe_machine::TaskRow;
 
 /// How many tasks have a row at most, if no more are of the heaviest chain.
 const MOST_ROWS: usize = 200;
@@ -22,14 +22,14 @@ pub(crate) fn row_at(rows: &[Option<u64>], task: u32) -> Option<u64>
 }
 
 /// How long a bar is.
-fn bar_length(bar: &Mark) -> u64
+fn bar_length(bar: &EntryBar) -> u64
     ensures { result ≡ bar_length bar.now }
 {
     bar.ends.saturating_sub(bar.begins)
 }
 
 /// Adds the work of an entry to that of its task, unless there are fewer tasks.
-fn add_work(works: &mut List<u128>, bar: &Mark)
+fn add_work(works: &mut List<u128>, bar: &EntryBar)
     requires { (task : ℕ) → slice_index works.old task < 2 ^ 128 - 2 ^ 64 }
     ensures same { works.new ≡ with_entry_work works.old bar.now }
     ensures length { length works.new ≡ length works.old }
@@ -44,7 +44,7 @@ fn add_work(works: &mut List<u128>, bar: &Mark)
 }
 
 /// The work of each of so many tasks.
-fn works_of(alloc: Global, tasks: usize, bars: &[Mark]) -> Result<List<u128>, Memory>
+fn works_of(alloc: Global, tasks: usize, bars: &[EntryBar]) -> Result<List<u128>, Memory>
     ensures same { IfOk result (λ works. works ≡ works_of tasks bars.now) }
     ensures length { IfOk result (λ works. length works ≡ tasks) }
 {
@@ -56,7 +56,7 @@ fn works_of(alloc: Global, tasks: usize, bars: &[Mark]) -> Result<List<u128>, Me
 }
 
 /// Sets the flag of the task of an entry, unless there are fewer tasks.
-fn flag_task(flags: &mut List<bool>, bar: &Mark)
+fn flag_task(flags: &mut List<bool>, bar: &EntryBar)
     ensures same { flags.new ≡ with_flag flags.old (Some bar.now) }
     ensures length { length flags.new ≡ length flags.old }
 {
@@ -67,7 +67,7 @@ fn flag_task(flags: &mut List<bool>, bar: &Mark)
 }
 
 /// Sets the flag of the task of the entry of this number.
-fn flag_entry(flags: &mut List<bool>, bars: &[Mark], number: u64)
+fn flag_entry(flags: &mut List<bool>, bars: &[EntryBar], number: u64)
     ensures same { flags.new ≡ with_flag flags.old (slice_get bars.now number) }
     ensures length { length flags.new ≡ length flags.old }
 {
@@ -82,7 +82,7 @@ fn chain_flags(
     alloc: Global,
     tasks: usize,
     chain: &[u64],
-    bars: &[Mark],
+    bars: &[EntryBar],
 ) -> Result<List<bool>, Memory>
     ensures same { IfOk result (λ flags. flags ≡ chain_flags tasks chain.now bars.now) }
     ensures length { IfOk result (λ flags. length flags ≡ tasks) }
@@ -98,7 +98,7 @@ fn chain_flags(
 pub(crate) fn shown_tasks(
     alloc: Global,
     chain: &[u64],
-    bars: &[Mark],
+    bars: &[EntryBar],
     tasks: &[TaskRow],
 ) -> Result<List<bool>, Memory>
     ensures { IfOk result (AreShownTasks chain.now bars.now tasks.now) }

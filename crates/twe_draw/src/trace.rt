@@ -6,12 +6,12 @@ ghost use Rattle.serde_json.specs.Written.{compact_text};
 ghost use Rattle.twe_draw.specs.Trace.{bar_event, end_name, entry_args, IsTrace, row_event, row_name, row_name_found, trace_data};
 
 use crate::bars::class_of;
-use run_picture::{Mark, Picture};
+use crate::picture::{EntryBar, Picture};
+use machine_state::TaskRow;
 use seg_journal::End;
 use serde_json::{Value, json};
 use std::alloc::{AllocError, Global};
 use twe_base::{Bytes, Memory};
-use twe_machine::TaskRow;
 use twe_program::Prog;
 
 /// The name of the declaration of a row.
@@ -57,7 +57,7 @@ fn row_event(alloc: Global, p: &Prog, row: &TaskRow) -> Result<Value, AllocError
 }
 
 /// What is told of an entry.
-fn entry_args(alloc: Global, bar: &Mark) -> Result<Value, AllocError>
+fn entry_args(alloc: Global, bar: &EntryBar) -> Result<Value, AllocError>
     ensures { IfOk result (λ args. view args ≡ entry_args bar.now) }
 {
     let end = end_name(bar.end);
@@ -65,7 +65,12 @@ fn entry_args(alloc: Global, bar: &Mark) -> Result<Value, AllocError>
 }
 
 /// The event of an entry.
-fn bar_event(alloc: Global, p: &Prog, tasks: &[TaskRow], bar: &Mark) -> Result<Value, AllocError>
+fn bar_event(
+    alloc: Global,
+    p: &Prog,
+    tasks: &[TaskRow],
+    bar: &EntryBar,
+) -> Result<Value, AllocError>
     ensures { IfOk result (λ event. view event ≡ bar_event p.now tasks.now bar.now) }
 {
     let args = entry_args(alloc, bar)?;
@@ -89,7 +94,7 @@ fn trace_events(
     alloc: Global,
     p: &Prog,
     tasks: &[TaskRow],
-    bars: &[Mark],
+    bars: &[EntryBar],
 ) -> Result<Vec<Value>, AllocError>
     ensures { IfOk result (λ events. map view events.items
         ≡ map (row_event p.now) tasks.now ++ map (bar_event p.now tasks.now) bars.now) }
@@ -109,7 +114,7 @@ fn trace_json(
     alloc: Global,
     p: &Prog,
     tasks: &[TaskRow],
-    bars: &[Mark],
+    bars: &[EntryBar],
 ) -> Result<String, AllocError>
     ensures text { IfOk result (λ json. string_bytes json ≡ compact_text (trace_data p.now bars.now tasks.now)) }
     ensures read { IfOk result (λ json. read (string_bytes json) ≡ Some (trace_data p.now bars.now tasks.now)) }

@@ -4,11 +4,11 @@ use Rattle.seg_journal.specs.declared.journal.Entry.{Entry}
 use Rattle.twe_base.specs.Limits.{Bounds}
 use Rattle.twe_program.specs.Program.{Program}
 use Rattle.twe_frontend.specs.Accepted.{Accepted}
-use Rattle.twe_machine.specs.LowestFirst.{IsOver, LowestFirst}
-use Rattle.twe_machine.specs.Runs.{AlwaysIsolated, EachAtMostOnce, EachOnce, IsOutcome, IsRun}
-use Rattle.twe_machine.specs.declared.ending.Outcome.{Outcome}
-use Rattle.twe_machine.specs.declared.ending.Outcome.TheVariants.{AllDone, Fault, Stuck, Unfinished}
-use Rattle.twe_machine.specs.declared.state.State.{State}
+use Rattle.machine_state.specs.LowestFirst.{IsOver, LowestFirst}
+use Rattle.machine_state.specs.Runs.{AlwaysIsolated, EachAtMostOnce, EachOnce, IsOutcome, IsRun}
+use Rattle.machine_state.specs.declared.ending.Outcome.{Outcome}
+use Rattle.machine_state.specs.declared.ending.Outcome.TheVariants.{AllDone, Fault, Stuck, Unfinished}
+use Rattle.machine_state.specs.declared.state.State.{State}
 use Rattle.isolation_laws.specs.Conflicts.{AlwaysCovered}
 use Rattle.determinism_laws.specs.results.Main.{MainHasItsResult}
 use Rattle.determinism_laws.specs.results.Results.{DeterministicTasksHaveResults}

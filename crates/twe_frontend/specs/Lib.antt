@@ -1,2 +1,4 @@
 pub mod Accepted
+pub mod Lines
 pub mod Reads
+pub mod meaning

@@ -21,7 +21,7 @@ use Rattle.twe_io.specs.declared.answer.Answer.{Answer}
 use Rattle.twe_io.specs.Answers.{on_err, on_out}
 use Rattle.twe_io.specs.declared.status.Status.TheVariants.{Done, Refused, TooMany}
 use Rattle.twe_infer.specs.Answers.{InferDue}
-use Rattle.text_meaning.specs.Meaning.{IsRefusedBefore, TextMeans}
+use Rattle.twe_frontend.specs.meaning.Meaning.{IsRefusedBefore, TextMeans}
 use Rattle.summary_texts.specs.Order.{summary_paths_of}
 use Rattle.summary_texts.specs.Texts.{clauses_text}
 use Rattle.twe_infer.specs.Texts.{summary_lines_of, too_many_text}

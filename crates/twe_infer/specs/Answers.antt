@@ -13,7 +13,7 @@ use Rattle.twe_io.specs.declared.status.Status.{Status}
 use Rattle.twe_io.specs.declared.status.Status.TheVariants.{Done, Refused, TooMany}
 use Rattle.twe_io.specs.Ends.{Ends, EndsTell, SourceTells}
 use Rattle.twe_io.specs.Answers.{IsAnswered, on_err, on_out}
-use Rattle.text_meaning.specs.Meaning.{TextMeans, IsRefusedBefore}
+use Rattle.twe_frontend.specs.meaning.Meaning.{TextMeans, IsRefusedBefore}
 use Rattle.twe_report.specs.Causes.{TextCause, without_words}
 use Rattle.twe_infer.specs.declared.program.Inferring.{Inferring}
 use Rattle.twe_infer.specs.Texts.{summary_lines_of, infer_usage_text, too_many_text}

@@ -1,14 +1,13 @@
 //! The answer to a text.
 ghost use Rattle.std.specs.Prelude.{IfOk};
 ghost use Rattle.twe_infer.specs.Answers.{InferDue};
-ghost use Rattle.text_meaning.specs.Meaning.{TextMeans};
+ghost use Rattle.twe_frontend.specs.meaning.Meaning.{TextMeans};
 
 use crate::text::{lines_of, too_many_text};
 use effect_infer::{InferFail, infer};
 use std::alloc::Global;
-use text_meaning::{Meaning, read_meaning};
 use twe_base::Memory;
-use twe_frontend::FrontFail;
+use twe_frontend::{FrontFail, Meaning, read_meaning};
 use twe_io::{Answer, Status};
 use twe_report::refusal_text;
 

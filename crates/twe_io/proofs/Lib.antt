@@ -5,3 +5,5 @@ pub mod MemWrites
 mod Read
 mod Written
 pub mod Answered
+mod Walks
+mod Through

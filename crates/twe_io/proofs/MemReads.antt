@@ -1,5 +1,5 @@
 -- Runs of reads of a source in memory.
-use Rattle.std.proofs.Common.{◌≡◌, ◌≤◌, ◌↔◌, ◌^◌, ◌+◌, ◌-◌, ℕ, length, List, Option, None, Some, Result, Ok, Err, IsErrOf, Bool, true, false, Contains, sym, ap, ◌∙◌, subst, refl, le_refl, arith, inl, inr}
+use Rattle.std.proofs.Common.{◌≡◌, ◌≤◌, ◌↔◌, ◌^◌, ◌+◌, ◌-◌, ℕ, length, List, [], Option, None, Some, Result, Ok, Err, IsErrOf, Bool, true, false, Contains, sym, ap, ◌∙◌, subst, refl, le_refl, arith, inl, inr}
 use Rattle.std.proofs.lemmas.Bool.{cases_lt}
 use Rattle.std.specs.Option.{is_none}
 use Rattle.twe_io.specs.Faults.{one_more}
@@ -18,7 +18,7 @@ pub record RunOf (first last : MemReading) (failed : Bool) : Type 0 where
   pub no_fault : failed ≡ false → NamedBetween first.fails first.calls last.calls → ⊥
 
 -- one read
-run-one : (before after : MemReading) (room : ℕ) (answer : Option ℕ) → before.calls ≤ 2 ^ 64 - 1
+run-one : (before after : MemReading) (room : ℕ) (answer : Option (List ℕ)) → before.calls ≤ 2 ^ 64 - 1
     → ReadsMem before room answer after → RunOf before after (is_none answer)
 run-one before after room None counted (named, e) =
     let calls : after.calls ≡ one_more before.calls = ap (λ (s : MemReading). s.calls) e in
@@ -29,7 +29,7 @@ run-one before after room None counted (named, e) =
       fault = λ yes. subst (λ (to : ℕ). NamedBetween before.fails before.calls to) (sym calls) named;
       no_fault = λ no. cc;
     }
-run-one before after room (Some n) counted (unnamed, given, e) =
+run-one before after room (Some given) counted (unnamed, same, e) =
     let calls : after.calls ≡ one_more before.calls = ap (λ (s : MemReading). s.calls) e in
     record {
       same = ap (λ (s : MemReading). s.fails) e;
@@ -63,7 +63,7 @@ run-more first before last failed run next =
       ];
     }
 
-pub run_of : (first : MemReading) {room n : ℕ} {last : MemReading} → first.calls ≤ 2 ^ 64 - 1 → Reads ReadsMem room first n last → RunOf first last false
+pub run_of : (first : MemReading) {room : ℕ} {text : List ℕ} {last : MemReading} → first.calls ≤ 2 ^ 64 - 1 → Reads ReadsMem room first text last → RunOf first last false
 run_of first counted Reads.none = record {
   same = refl;
   later = le_refl _;
@@ -71,29 +71,29 @@ run_of first counted Reads.none = record {
   fault = λ yes. cc;
   no_fault = λ no h. omega (arith, h.after, h.up_to);
 }
-run_of first {room} counted (Reads.read {n} {before} {after} taken more reads less some step e) =
+run_of first {room} counted (Reads.read {text} {before} {after} given more reads less some step e) =
     let run = run_of first counted reads in
-    run-more first before after false run (run-one before after (room - taken) (Some more) run.counted step)
+    run-more first before after false run (run-one before after (room - length given) (Some more) run.counted step)
 
 -- reads, and then one that ends them
-run_then : (first : MemReading) (room n : ℕ) (answer : Option ℕ) (last : MemReading) → first.calls ≤ 2 ^ 64 - 1
-    → ReadsThen ReadsMem room first n answer last → RunOf first last (is_none answer)
-run_then first room n answer last counted h =
+run_then : (first : MemReading) (room : ℕ) (text : List ℕ) (answer : Option (List ℕ)) (last : MemReading) → first.calls ≤ 2 ^ 64 - 1
+    → ReadsThen ReadsMem room first text answer last → RunOf first last (is_none answer)
+run_then first room text answer last counted h =
     let run = run_of first counted h.reads in
-    run-more first h.before last (is_none answer) run (run-one h.before last (room - n) answer run.counted h.ends)
+    run-more first h.before last (is_none answer) run (run-one h.before last (room - length text) answer run.counted h.ends)
 
 -- so the answer of a whole read is `ReadFault` exactly where a call that it made is named
 pub read_fault_iff : (limit : ℕ) (answer : Result (List ℕ) ReadFail) (first last : MemReading) → first.calls ≤ 2 ^ 64 - 1
     → ReadsWhole ReadsMem limit first answer last
     → IsErrOf answer ReadFault ↔ NamedBetween first.fails first.calls last.calls
 read_fault_iff limit (Ok text) first last counted h =
-    let run = run_then first (limit + 1) (length text) (Some 0) last counted h in
+    let run = run_then first (limit + 1) text (Some []) last counted h in
     ((λ e. cc), (λ named. absurd (run.no_fault refl named)))
 read_fault_iff limit (Err ReadFault) first last counted h =
     let run = run_then first (limit + 1) h.0 None last counted h.1 in
     ((λ e. run.fault refl), (λ named. refl))
 read_fault_iff limit (Err TooLong) first last counted h =
-    let run = run_of first counted h in
+    let run = run_of first counted h.2 in
     ((λ e. cc), (λ named. absurd (run.no_fault refl named)))
 read_fault_iff limit (Err (OutOfMemory memory)) first last counted h =
     ((λ e. cc), (λ named. absurd (omega (arith, named.after, named.up_to, ap (λ (s : MemReading). s.calls) h))))

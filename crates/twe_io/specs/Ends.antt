@@ -8,14 +8,15 @@ use Rattle.twe_io.specs.Runs.{ReadsWhole, WriteCalls}
 use Rattle.twe_io.specs.declared.whole.ReadFail.{ReadFail}
 use Rattle.twe_io.specs.declared.whole.ReadFail.TheVariants.{ReadFault, TooLong, OutOfMemory}
 
--- what is known of a source: the bytes that are left, if it says so; how many reads have failed; and what one read does
+-- what is known of a source: the bytes that are left, if it says so; how many reads have failed; and what one read does, by
+-- the bytes that it gives
 pub record SourceTells (S : Type 0) : Type 1 where
   pub left : S → Option (List ℕ)
   pub faults : S → ℕ
-  pub gives : S → ℕ → Option ℕ → S → Type 0
+  pub gives : S → ℕ → Option (List ℕ) → S → Type 0
 
 -- a source that is described so
-abbrev pub source : {S : Type 0} → (S → Option (List ℕ)) → (S → ℕ) → (S → ℕ → Option ℕ → S → Type 0) → SourceTells S
+abbrev pub source : {S : Type 0} → (S → Option (List ℕ)) → (S → ℕ) → (S → ℕ → Option (List ℕ) → S → Type 0) → SourceTells S
 source left faults gives = record { left = left; faults = faults; gives = gives }
 
 -- what is known of a sink: the bytes that were written, if it says so; how many writes have failed; and what one write does
@@ -58,7 +59,7 @@ Told tells before (Err TooLong) after =
     IfSome (tells.left before) (λ _. Gives (tells.left before) (tells.left after) (max_text_bytes + 1))
 Told tells before (Err (OutOfMemory memory)) after = Unit {0}
 
--- the reading of the source came to this result: exactly these reads were made, and they gave these bytes
+-- the reading of the source came to this result: exactly these reads were made, and a text that was read is what they gave
 pub record WasRead {S : Type 0} (tells : SourceTells S)
     (before : S) (answer : Result (List ℕ) ReadFail) (after : S) : Type 0 where
   pub reads : ReadsWhole tells.gives max_text_bytes before answer after

@@ -1,5 +1,6 @@
 pub mod Faults
 pub mod Told
+pub mod Moved
 pub mod Runs
 pub mod Plain
 pub mod Named

@@ -17,15 +17,16 @@ pub record MemReading : Type 0 where
 abbrev pub mem_left_of : MemReading → List ℕ
 mem_left_of source = drop source.at source.bytes
 
--- One read into a buffer of this size. A read that fails changes only the counts of calls and faults.
-abbrev pub ReadsMem : MemReading → ℕ → Option ℕ → MemReading → Type 0
+-- One read into a buffer of this size. It gives the first of the bytes left, as many as fit, but no more than a call gives at
+-- most. A read that fails changes only the counts of calls and faults.
+abbrev pub ReadsMem : MemReading → ℕ → Option (List ℕ) → MemReading → Type 0
 ReadsMem before room None after =
     NextIsNamed before.fails before.calls
     × (after ≡ record before { calls = one_more before.calls; faults = one_more before.faults })
-ReadsMem before room (Some n) after =
+ReadsMem before room (Some given) after =
     (¬ NextIsNamed before.fails before.calls)
-    × (n ≡ min room (min before.step (length (mem_left_of before))))
-    × (after ≡ record before { at = before.at + n; calls = one_more before.calls })
+    × (given ≡ take (min room before.step) (mem_left_of before))
+    × (after ≡ record before { at = before.at + length given; calls = one_more before.calls })
 
 -- A sink: the bytes written so far, and its size; how many bytes a call takes at most; how many calls were made, the
 -- numbers of the calls that fail, and how many calls failed.

@@ -11,11 +11,11 @@ pub record Reading : Type 0 where
 abbrev pub plain_left_of : Reading → List ℕ
 plain_left_of source = drop source.at source.bytes
 
--- one read into a buffer of this size never fails, and gives as many of the bytes left as fit
-abbrev pub ReadsPlain : Reading → ℕ → Option ℕ → Reading → Type 0
+-- one read into a buffer of this size never fails, and gives the first of the bytes left, as many as fit
+abbrev pub ReadsPlain : Reading → ℕ → Option (List ℕ) → Reading → Type 0
 ReadsPlain before room answer after =
-    let given = min room (length (plain_left_of before)) in
-    (answer ≡ Some given) × (after ≡ record before { at = before.at + given })
+    let given = take room (plain_left_of before) in
+    (answer ≡ Some given) × (after ≡ record before { at = before.at + length given })
 
 -- the bytes written to a sink so far, its size, and how many of its writes failed
 pub record Writing : Type 0 where

@@ -1,30 +1,34 @@
 -- Sequences of calls. A source or a sink may describe one call by a relation `gives` of four things: its state before
--- the call, what was passed to the call, how many bytes the call returned (`None` if it failed), and its state after.
-use Rattle.std.specs.Prelude.{◌≡◌, ◌<◌, ◌-◌, ℕ, ◌+◌, List, length, drop, Option, None, Some, Result, Ok, Err, MatchResult}
+-- the call, what was passed to the call, what came of it (`None` if it failed), and its state after. What comes of a read
+-- is the bytes that it gave, and of a write how many bytes it took.
+use Rattle.std.specs.Prelude.{◌≡◌, ◌<◌, ◌-◌, ℕ, ◌+◌, List, [], ◌++◌, length, drop, Option, None, Some, Result, Ok, Err, MatchResult}
 use Rattle.twe_io.specs.declared.whole.ReadFail.{ReadFail}
 use Rattle.twe_io.specs.declared.whole.ReadFail.TheVariants.{ReadFault, TooLong, OutOfMemory}
 
--- Reads of a source, one after another. Each gave at least one byte, and together they gave n bytes. Each is passed
--- the part of the buffer that the reads before it left empty.
-pub data Reads {S : Type 0} (gives : S → ℕ → Option ℕ → S → Type 0) (room : ℕ) (first : S) : ℕ → S → Type 0 where
-  none : Reads gives room first 0 first
-  read : {n : ℕ} {before after : S} (taken more : ℕ) → Reads gives room first taken before → taken < room → 0 < more
-      → gives before (room - taken) (Some more) after → taken + more ≡ n → Reads gives room first n after
+-- Reads of a source, one after another. Each gave at least one byte, and what they gave makes this text, one piece after
+-- another. Each is passed the part of the buffer that the reads before it left empty.
+pub data Reads {S : Type 0} (gives : S → ℕ → Option (List ℕ) → S → Type 0) (room : ℕ) (first : S) : List ℕ → S → Type 0 where
+  none : Reads gives room first [] first
+  read : {text : List ℕ} {before after : S} (given more : List ℕ) → Reads gives room first given before → length given < room
+      → 0 < length more → gives before (room - length given) (Some more) after → given ++ more ≡ text
+      → Reads gives room first text after
 
--- reads that gave n bytes, and then one more read with this answer
-pub record ReadsThen {S : Type 0} (gives : S → ℕ → Option ℕ → S → Type 0)
-    (room : ℕ) (first : S) (n : ℕ) (answer : Option ℕ) (last : S) : Type 0 where
+-- reads that gave this text, and then one more read with this answer
+pub record ReadsThen {S : Type 0} (gives : S → ℕ → Option (List ℕ) → S → Type 0)
+    (room : ℕ) (first : S) (text : List ℕ) (answer : Option (List ℕ)) (last : S) : Type 0 where
   pub before : S
-  pub less : n < room
-  pub reads : Reads gives room first n before
-  pub ends : gives before (room - n) answer last
+  pub less : length text < room
+  pub reads : Reads gives room first text before
+  pub ends : gives before (room - length text) answer last
 
--- The reads of `read_all`, into a buffer one byte larger than the limit. They end with a read that gives nothing, with
--- a read that fails, or once the buffer is full. Without memory for the buffer there are no reads.
-abbrev pub ReadsWhole : {S : Type 0} → (S → ℕ → Option ℕ → S → Type 0) → ℕ → S → Result (List ℕ) ReadFail → S → Type 0
-ReadsWhole gives limit first (Ok text) last = ReadsThen gives (limit + 1) first (length text) (Some 0) last
-ReadsWhole gives limit first (Err ReadFault) last = (n : ℕ) × ReadsThen gives (limit + 1) first n None last
-ReadsWhole gives limit first (Err TooLong) last = Reads gives (limit + 1) first (limit + 1) last
+-- The reads of `read_all`, into a buffer one byte larger than the limit. They gave the text that is returned, and end with
+-- a read that gives nothing; or they end with a read that fails, or once the buffer is full. Without memory for the buffer
+-- there are no reads.
+abbrev pub ReadsWhole : {S : Type 0} → (S → ℕ → Option (List ℕ) → S → Type 0) → ℕ → S → Result (List ℕ) ReadFail → S → Type 0
+ReadsWhole gives limit first (Ok text) last = ReadsThen gives (limit + 1) first text (Some []) last
+ReadsWhole gives limit first (Err ReadFault) last = (given : List ℕ) × ReadsThen gives (limit + 1) first given None last
+ReadsWhole gives limit first (Err TooLong) last =
+    (given : List ℕ) × (length given ≡ limit + 1) × Reads gives (limit + 1) first given last
 ReadsWhole gives limit first (Err (OutOfMemory memory)) last = last ≡ first
 
 -- WriteCalls of a text to a sink, all of which succeeded. Each is passed the text that is left, and together they took n

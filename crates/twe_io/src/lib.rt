@@ -5,6 +5,7 @@
 #![tactic(auto)]
 
 mod answer;
+mod carried;
 mod failed;
 mod mem;
 mod plain;

@@ -1,5 +1,5 @@
 //! A process: the words with which it was started, and its standard streams.
-ghost use Rattle.std.specs.Prelude.{◌≡◌, IfOk};
+ghost use Rattle.std.specs.Prelude.{◌≡◌, [], IfOk};
 
 use crate::{StdStream, words_of};
 use std::io::{Read, Write};
@@ -20,15 +20,17 @@ pub struct Process<I: Read + Drop, O: Write + Drop, E: Write + Drop> {
 }
 
 impl<I: Read + Drop, O: Write + Drop, E: Write + Drop> Process<I, O, E> {
-    /// The process with these standard streams. Nothing is read or written.
+    /// The process with these standard streams. Nothing is read or written yet.
     pub fn start<R: Env + AllocGlobal>(
         rt: &R,
         input: I,
         output: O,
         errors: E,
     ) -> Result<Self, Memory>
-        ensures { IfOk result (λ process.
+        ensures streams { IfOk result (λ process.
             (process.src.stream ≡ input) × (process.out.stream ≡ output) × (process.err.stream ≡ errors)) }
+        ensures unused { IfOk result (λ process. (process.src.carried.bytes ≡ [])
+            × (process.out.carried.bytes ≡ []) × (process.err.carried.bytes ≡ [])) }
     {
         Ok(Process {
             words: words_of(rt)?,

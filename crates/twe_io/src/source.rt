@@ -3,6 +3,7 @@ ghost use Rattle.std.specs.Prelude.{◌≡◌, ◌<◌, ◌≤◌, List, ℕ, Op
 ghost use Rattle.std.specs.Result.{result_ok};
 ghost use Rattle.std.specs.Io.KnownBytes.{Consumes, IsAtEnd, Keeps};
 ghost use Rattle.twe_io.specs.Faults.{Rose};
+ghost use Rattle.twe_io.specs.Moved.{moved};
 
 use crate::Failed;
 
@@ -17,9 +18,9 @@ pub trait Source {
     /// The bytes left to read, or `None` if the source does not make them known.
     ghost left: { Self → Option (List ℕ) };
 
-    /// What one read does: a relation of the source before, the size of the buffer, how many bytes were given (`None`
+    /// What one read does: a relation of the source before, the size of the buffer, the bytes that were given (`None`
     /// if the read failed), and the source after. Without a definition it says nothing.
-    ghost read_gives: { Self → ℕ → Option ℕ → Self → Type 0 } = { λ _ _ _ _. Unit {0} };
+    ghost read_gives: { Self → ℕ → Option (List ℕ) → Self → Type 0 } = { λ _ _ _ _. Unit {0} };
 
     /// Puts bytes at the front of the buffer, and returns how many. If it returns 0 and the buffer is not empty, the
     /// source is at its end. A read that fails takes nothing.
@@ -30,5 +31,5 @@ pub trait Source {
         ensures kept { OnErr result (Keeps (left self.old) (left self.new)) }
         ensures fault { OnErr result (Rose (faults self.old) (faults self.new)) }
         ensures counts { faults self.old ≤ faults self.new }
-        ensures gives { read_gives self.old (length buffer.old) (result_ok result) self.new };
+        ensures gives { read_gives self.old (length buffer.old) (moved (result_ok result) buffer.new) self.new };
 }

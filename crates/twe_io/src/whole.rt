@@ -67,7 +67,7 @@ pub fn read_all<S: Source>(alloc: Global, source: &mut S, limit: usize) -> Resul
 
     ensures taken { GivesAtMost (S.left source.old) (S.left source.new) (limit + 1) }
     ensures counts { S.faults source.old ≤ S.faults source.new }
-    // The sequence of reads, and how it ended.
+    // The sequence of reads, what they gave, and how it ended.
     ensures reads { ReadsWhole S.read_gives limit source.old result source.new }
 {
     let mut buffer = buffer_for(alloc, limit)?;
@@ -102,7 +102,7 @@ fn fill<S: Source>(source: &mut S, buffer: &mut [u8]) -> Result<usize, Failed>
     ensures lost { OnErr result (GivesLess (S.left source.old) (S.left source.new) (length buffer.old)) }
     ensures fault { OnErr result (Rose (S.faults source.old) (S.faults source.new)) }
     ensures counts { S.faults source.old ≤ S.faults source.new }
-    ensures reads { IfOk result (λ n. FillsUp S.read_gives (length buffer.old) source.old n source.new) }
+    ensures reads { IfOk result (λ n. FillsUp S.read_gives (length buffer.old) source.old (take n buffer.new) source.new) }
     ensures broken { OnErr result (BreaksOff S.read_gives (length buffer.old) source.old source.new) }
 {
     let mut taken = 0;

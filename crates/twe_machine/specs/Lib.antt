@@ -1,13 +1,4 @@
-pub mod Changes
-pub mod FramesOut
-pub mod Legal
 pub mod Queues
 pub mod Books
 pub mod Listings
-pub mod LowestFirst
-pub mod Moves
-pub mod Replays
-pub mod Rows
-pub mod Runs
 pub mod inner
-pub mod segment_laws

@@ -3,27 +3,27 @@ use Rattle.std.specs.Prelude.{◌≡◌, ◌≢◌, ◌≤◌, ◌<◌, ◌⊎�
 use Rattle.wait_graph.specs.declared.tasks.Link.{Link}
 use Rattle.wait_graph.specs.Waiting.{IsDone, WaitsOn, WaitsOnUnlessDone, YieldsTo}
 use Rattle.twe_machine.specs.declared.queue.Queued.{Queued}
-use Rattle.twe_machine.specs.declared.state.State.{State}
-use Rattle.twe_machine.specs.declared.state.TaskStatus.TheVariants.{Enabled}
-use Rattle.twe_machine.specs.Legal.{Interfere}
-use Rattle.twe_machine.specs.Rows.{HasStatus}
+use Rattle.machine_state.specs.declared.state.State.{State}
+use Rattle.machine_state.specs.declared.state.TaskStatus.TheVariants.{Enabled}
+use Rattle.machine_state.specs.Legal.{Interfere}
+use Rattle.machine_state.specs.Rows.{HasStatus}
 
 -- s is done, or waits for u, directly or through others, unless u is done. Legal moves keep it.
-abbrev pub KeepsLeading : List Link → ℕ → ℕ → Type 0
-KeepsLeading links s u = IsDone links s ⊎ WaitsOnUnlessDone links s u
+abbrev pub KeepsWaiting : List Link → ℕ → ℕ → Type 0
+KeepsWaiting links s u = IsDone links s ⊎ WaitsOnUnlessDone links s u
 
 -- s is the task of an entry
 abbrev pub IsQueued : List Queued → ℕ → Type 0
 IsQueued entries s = (i : ℕ) × (e : Queued) × (slice_get entries i ≡ Some e) × (e.task ≡ s)
 
 -- the tasks of so many first entries lead to u
-abbrev pub FirstLead : List Link → List Queued → ℕ → ℕ → Type 0
-FirstLead links entries count u =
-    (i : ℕ) (e : Queued) → i < count → slice_get entries i ≡ Some e → KeepsLeading links e.task u
+abbrev pub FirstKeepWaiting : List Link → List Queued → ℕ → ℕ → Type 0
+FirstKeepWaiting links entries count u =
+    (i : ℕ) (e : Queued) → i < count → slice_get entries i ≡ Some e → KeepsWaiting links e.task u
 
 -- the tasks of the entries before this place lead to the task there
 abbrev pub DecidesAt : List Link → List Queued → ℕ → Type 0
-DecidesAt links entries d = (f : Queued) → slice_get entries d ≡ Some f → FirstLead links entries d f.task
+DecidesAt links entries d = (f : Queued) → slice_get entries d ≡ Some f → FirstKeepWaiting links entries d f.task
 
 -- each entry that names a place names one up to its own that decides for those before it
 abbrev pub IsDecided : List Link → List Queued → Type 0
@@ -34,16 +34,16 @@ IsDecided links entries =
 -- an entry for t that comes after the others may name this place: its own, if all others lead to t, or one that decides
 abbrev pub MayName : List Link → List Queued → ℕ → ℕ → Type 0
 MayName links entries t d =
-    ((d ≡ length entries) × FirstLead links entries d t) ⊎ ((d < length entries) × DecidesAt links entries d)
+    ((d ≡ length entries) × FirstKeepWaiting links entries d t) ⊎ ((d < length entries) × DecidesAt links entries d)
 
 -- s is done, or waits for u, directly or through others
-abbrev pub IsLed : List Link → ℕ → ℕ → Type 0
-IsLed links s u = IsDone links s ⊎ WaitsOn links s u
+abbrev pub IsDoneOrWaits : List Link → ℕ → ℕ → Type 0
+IsDoneOrWaits links s u = IsDone links s ⊎ WaitsOn links s u
 
 -- the tasks of the entries from this place up to that one are done or wait for u
-abbrev pub AreLed : List Link → List Queued → ℕ → ℕ → ℕ → Type 0
-AreLed links entries from to u =
-    (i : ℕ) (e : Queued) → from ≤ i → i < to → slice_get entries i ≡ Some e → IsLed links e.task u
+abbrev pub AllWait : List Link → List Queued → ℕ → ℕ → ℕ → Type 0
+AllWait links entries from to u =
+    (i : ℕ) (e : Queued) → from ≤ i → i < to → slice_get entries i ≡ Some e → IsDoneOrWaits links e.task u
 
 -- s is no bar to t: it yields to t, if it is another task, is enabled, and interferes with t
 abbrev pub IsNoBar : State → ℕ → ℕ → Type 0

@@ -1,4 +1,3 @@
 pub mod Meeting
 pub mod Nodes
-pub mod Settling
 pub mod UnderWay

@@ -1,13 +1,13 @@
 //! The bars to an admission.
 ghost use Rattle.std.specs.Prelude.{◌≡◌, ◌≢◌, ◌<◌, ◌↔◌, ℕ, false, length, IfNone, IfSome, IsTrue};
-ghost use Rattle.twe_machine.specs.declared.state.TaskStatus.TheVariants.{Made, Enabled};
-ghost use Rattle.twe_machine.specs.Legal.{Interfere, IsBar, MayAdmit};
+ghost use Rattle.machine_state.specs.declared.state.TaskStatus.TheVariants.{Made, Enabled};
+ghost use Rattle.machine_state.specs.Legal.{Interfere, IsBar, MayAdmit};
 ghost use Rattle.wait_graph.specs.Waiting.{YieldsTo};
-ghost use Rattle.twe_machine.specs.Rows.{EffectsAreFilled, HasStatus};
+ghost use Rattle.machine_state.specs.Rows.{EffectsAreFilled, HasStatus};
 ghost use Rattle.twe_machine.specs.inner.Meeting.{Meets};
 
-use crate::state::{State, TaskStatus};
 use effect_sets::summaries_interfere;
+use machine_state::{State, TaskStatus};
 
 /// The lowest task that is a bar to the admission of `t`, if there is one. If there is none and `t` was made, `t` may
 /// be admitted. It takes no memory.

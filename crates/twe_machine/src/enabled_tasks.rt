@@ -4,20 +4,20 @@ ghost use Rattle.effect_sets.specs.declared.effects.Effect.{Effect};
 ghost use Rattle.effect_sets.specs.Interference.{Interferes};
 ghost use Rattle.twe_base.specs.Limits.{Bounds};
 ghost use Rattle.twe_program.specs.Program.{Program};
-ghost use Rattle.twe_machine.specs.declared.state.TaskRow.{TaskRow};
-ghost use Rattle.twe_machine.specs.declared.state.TaskStatus.TheVariants.{Made, Enabled};
+ghost use Rattle.machine_state.specs.declared.state.TaskRow.{TaskRow};
+ghost use Rattle.machine_state.specs.declared.state.TaskStatus.TheVariants.{Made, Enabled};
 ghost use Rattle.twe_machine.specs.Books.{AreDecided, IsEntered};
-ghost use Rattle.twe_machine.specs.Legal.{IsBar};
+ghost use Rattle.machine_state.specs.Legal.{IsBar};
 ghost use Rattle.twe_machine.specs.Listings.{HasEffect, IsListing};
-ghost use Rattle.twe_machine.specs.Moves.{start_of};
+ghost use Rattle.machine_state.specs.Moves.{start_of};
 ghost use Rattle.twe_machine.specs.Queues.{IsNoBar};
-ghost use Rattle.twe_machine.specs.Rows.{EffectsAreFilled, HasStatus, IsRow, LinksAgree};
+ghost use Rattle.machine_state.specs.Rows.{EffectsAreFilled, HasStatus, IsRow, LinksAgree};
 ghost use Rattle.wait_graph.specs.declared.tasks.Link.{Link};
 
 use crate::bars::is_enabled;
 use crate::book::TaskBook;
-use crate::state::State;
 use effect_sets::Effect;
+use machine_state::State;
 use std::alloc::Global;
 use twe_base::Memory;
 

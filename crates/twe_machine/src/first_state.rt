@@ -1,10 +1,10 @@
 //! The state that a run starts in.
 ghost use Rattle.std.specs.Prelude.{◌≡◌, [], IfOk};
-ghost use Rattle.seg_exec.specs.Entry.{effects_at, entry_frame};
-ghost use Rattle.twe_machine.specs.Moves.{start_of, initial_values};
+ghost use Rattle.seg_meaning.specs.Entry.{effects_at, entry_frame};
+ghost use Rattle.machine_state.specs.Moves.{start_of, initial_values};
 
 use crate::new_task::{NewTask, new_row};
-use crate::state::State;
+use machine_state::State;
 use seg_exec::{effects_at, entry_frame};
 use seg_journal::Limits;
 use std::alloc::Global;

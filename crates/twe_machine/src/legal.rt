@@ -1,30 +1,15 @@
 //! Which moves are legal.
 ghost use Rattle.std.specs.Prelude.{◌≡◌, ◌↔◌, length, IsOk, IfErr};
 ghost use Rattle.seg_journal.specs.declared.moves.Kind.TheVariants.{Admit, Run};
-ghost use Rattle.twe_machine.specs.declared.state.TaskStatus.TheVariants.{Made, Enabled};
-ghost use Rattle.twe_machine.specs.Legal.{Forbids, MayMove, MayTake};
-ghost use Rattle.twe_machine.specs.Rows.{EffectsAreFilled, HasStatus};
-ghost use Rattle.twe_machine.specs.Runs.{IsReachable};
+ghost use Rattle.machine_state.specs.declared.state.TaskStatus.TheVariants.{Made, Enabled};
+ghost use Rattle.machine_state.specs.Legal.{Forbids, MayMove, MayTake};
+ghost use Rattle.machine_state.specs.Rows.{EffectsAreFilled, HasStatus};
+ghost use Rattle.machine_state.specs.Runs.{IsReachable};
 
 use crate::bars::bar;
-use crate::state::{State, TaskStatus};
+use machine_state::{State, TaskStatus, Why};
 use seg_journal::{Kind, Move};
 use twe_program::Prog;
-
-/// Why a move is not legal.
-#[derive(Clone, Copy, Debug, PartialEq, Eq)]
-pub enum Why {
-    /// There is no such task.
-    NoTask,
-    /// It is to be admitted, and does not wait for its admission.
-    NotMade,
-    /// It is to be admitted, and this task is the lowest bar to it.
-    HeldBy(u32),
-    /// It is to run, and is not enabled.
-    NotEnabled,
-    /// It is to run, and waits for this task.
-    WaitsFor(u32),
-}
 
 /// Checks that the move is legal in a reached state of the program, and returns the reason if it is not.
 pub fn may(p: &Prog, st: &State, mv: Move) -> Result<(), Why>

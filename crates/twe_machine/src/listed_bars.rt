@@ -1,16 +1,16 @@
 //! Bars among the enabled tasks.
 ghost use Rattle.std.specs.Prelude.{◌↔◌, ℕ, IfErr, IfNone, IfSome, IsOk, IsTrue};
-ghost use Rattle.twe_machine.specs.declared.state.TaskStatus.TheVariants.{Made};
-ghost use Rattle.twe_machine.specs.Legal.{Forbids, IsBar, MayAdmit, MayMove};
+ghost use Rattle.machine_state.specs.declared.state.TaskStatus.TheVariants.{Made};
+ghost use Rattle.machine_state.specs.Legal.{Forbids, IsBar, MayAdmit, MayMove};
 ghost use Rattle.twe_machine.specs.Listings.{IsListing};
-ghost use Rattle.twe_machine.specs.Rows.{HasStatus};
-ghost use Rattle.twe_machine.specs.Runs.{IsReachable};
+ghost use Rattle.machine_state.specs.Rows.{HasStatus};
+ghost use Rattle.machine_state.specs.Runs.{IsReachable};
 ghost use Rattle.twe_program.specs.Program.{Program};
 ghost use Rattle.twe_program.specs.WellFormed.{IsWellFormed};
 
 use crate::enabled_tasks::EnabledTasks;
-use crate::legal::{Why, may};
-use crate::state::{State, TaskStatus};
+use crate::legal::may;
+use machine_state::{State, TaskStatus, Why};
 use seg_journal::{Kind, Move};
 use twe_program::Prog;
 

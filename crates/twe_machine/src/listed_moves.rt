@@ -2,14 +2,14 @@
 ghost use Rattle.std.specs.Prelude.{◌≡◌, ℕ, OnOk};
 ghost use Rattle.effect_sets.specs.declared.effects.Effect.{Effect};
 ghost use Rattle.seg_journal.specs.declared.moves.Kind.{Kind};
-ghost use Rattle.twe_machine.specs.declared.state.TaskRow.{TaskRow};
-ghost use Rattle.twe_machine.specs.declared.state.TaskStatus.TheVariants.{Enabled};
+ghost use Rattle.machine_state.specs.declared.state.TaskRow.{TaskRow};
+ghost use Rattle.machine_state.specs.declared.state.TaskStatus.TheVariants.{Enabled};
 ghost use Rattle.twe_machine.specs.Books.{AreDecided, IsEntered};
 ghost use Rattle.twe_machine.specs.Listings.{HasEffect, IsListing, WasListing};
-ghost use Rattle.twe_machine.specs.Rows.{HasStatus, IsRow};
+ghost use Rattle.machine_state.specs.Rows.{HasStatus, IsRow};
 
 use crate::enabled_tasks::EnabledTasks;
-use crate::state::State;
+use machine_state::State;
 use seg_journal::{Kind, Move};
 use twe_base::Memory;
 

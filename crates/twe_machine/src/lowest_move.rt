@@ -2,14 +2,14 @@
 ghost use Rattle.std.specs.Prelude.{◌≡◌, ◌<◌, ℕ, length, IfNone, IfSome};
 ghost use Rattle.seg_journal.specs.declared.moves.Kind.{Kind};
 ghost use Rattle.seg_journal.specs.declared.moves.Move.{Move};
-ghost use Rattle.twe_machine.specs.declared.state.TaskStatus.TheVariants.{Done};
-ghost use Rattle.twe_machine.specs.Legal.{MayMove, MayTake};
-ghost use Rattle.twe_machine.specs.LowestFirst.{IsLowest};
-ghost use Rattle.twe_machine.specs.Rows.{HasStatus};
-ghost use Rattle.twe_machine.specs.Runs.{IsReachable};
+ghost use Rattle.machine_state.specs.declared.state.TaskStatus.TheVariants.{Done};
+ghost use Rattle.machine_state.specs.Legal.{MayMove, MayTake};
+ghost use Rattle.machine_state.specs.LowestFirst.{IsLowest};
+ghost use Rattle.machine_state.specs.Rows.{HasStatus};
+ghost use Rattle.machine_state.specs.Runs.{IsReachable};
 
 use crate::legal::may;
-use crate::state::State;
+use machine_state::State;
 use seg_journal::{Kind, Move};
 use twe_program::Prog;
 

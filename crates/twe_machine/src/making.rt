@@ -2,16 +2,16 @@
 ghost use Rattle.std.specs.Prelude.{◌≡◌, ◌+◌, ◌-◌, ◌^◌, ◌<◌, ◌++◌, ◌∷◌, [], length, true, Some, IfOk, OnOk, slice_set};
 ghost use Rattle.std.specs.Option.{ForSome};
 ghost use Rattle.wait_graph.specs.Link.{new_link};
-ghost use Rattle.twe_machine.specs.declared.state.TaskRow.{TaskRow};
-ghost use Rattle.twe_machine.specs.Moves.{MaySettle, children_with, making_frame, new_row, state_after_make, stop_result};
-ghost use Rattle.twe_machine.specs.Rows.{IsRow, row_awaited};
+ghost use Rattle.machine_state.specs.declared.state.TaskRow.{TaskRow};
+ghost use Rattle.machine_state.specs.Moves.{MaySettle, children_with, making_frame, new_row, state_after_make, stop_result};
+ghost use Rattle.machine_state.specs.Rows.{IsRow, row_awaited};
 
 use crate::new_task::{NewTask, new_row, parent_of};
-use crate::state::State;
 use crate::storing::store_frame;
 use crate::task_end::{fail, without_rest};
-use seg_exec::{Children, Frame, Stop};
+use machine_state::State;
 use seg_journal::{End, FaultKind, Limits};
+use seg_meaning::{Children, Frame, Stop};
 use std::alloc::Global;
 use twe_base::{List, Memory, Place};
 

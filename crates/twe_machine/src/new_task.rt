@@ -1,11 +1,11 @@
 //! The row of a new task.
 ghost use Rattle.std.specs.Prelude.{◌≡◌};
-ghost use Rattle.twe_machine.specs.Moves.{new_row, parent_of, status_at_start};
+ghost use Rattle.machine_state.specs.Moves.{new_row, parent_of, status_at_start};
 
-use crate::state::{TaskRow, TaskStatus};
 use effect_sets::Summary;
-use seg_exec::Frame;
+use machine_state::{TaskRow, TaskStatus};
 use seg_journal::Limits;
+use seg_meaning::Frame;
 use std::alloc::Global;
 use twe_base::{Ints, List};
 

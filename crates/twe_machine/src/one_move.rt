@@ -1,11 +1,11 @@
 //! Taking one move.
 ghost use Rattle.std.specs.Prelude.{◌≡◌, ◌<◌, length, IfOk, slice_get};
-ghost use Rattle.twe_machine.specs.Legal.{MayMove};
-ghost use Rattle.twe_machine.specs.Moves.{admitted, move_result};
-ghost use Rattle.twe_machine.specs.Runs.{IsReached};
+ghost use Rattle.machine_state.specs.Legal.{MayMove};
+ghost use Rattle.machine_state.specs.Moves.{admitted, move_result};
+ghost use Rattle.machine_state.specs.Runs.{IsReached};
 
 use crate::running::run;
-use crate::state::{State, TaskStatus};
+use machine_state::{State, TaskStatus};
 use seg_journal::{End, Kind, Limits, Move};
 use std::alloc::Global;
 use twe_base::Memory;

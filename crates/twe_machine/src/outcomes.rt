@@ -1,12 +1,11 @@
 //! The outcome of a run in a state.
 ghost use Rattle.std.specs.Prelude.{◌≡◌};
 ghost use Rattle.std.specs.List.{list_all};
-ghost use Rattle.twe_machine.specs.Rows.{is_done_row};
-ghost use Rattle.twe_machine.specs.Runs.{IsReachable, IsOutcome};
+ghost use Rattle.machine_state.specs.Rows.{is_done_row};
+ghost use Rattle.machine_state.specs.Runs.{IsReachable, IsOutcome};
 
-use crate::ending::Outcome;
 use crate::lowest_move::lowest;
-use crate::state::{State, TaskRow, TaskStatus};
+use machine_state::{Outcome, State, TaskRow, TaskStatus};
 use twe_program::Prog;
 
 /// The outcome of a run of the program that has come to this state. It takes no memory.

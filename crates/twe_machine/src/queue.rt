@@ -1,12 +1,12 @@
 //! Tasks in the order in which they were enabled, some of which decide for those before them.
 ghost use Rattle.std.specs.Prelude.{◌≡◌, ◌<◌, ◌-◌, ◌⊎◌, [], ℕ, Some, length, slice_get, IfOk, IfSome, IsTrue, OnOk};
 ghost use Rattle.twe_machine.specs.declared.queue.Queued.{Queued};
-ghost use Rattle.twe_machine.specs.declared.state.TaskStatus.TheVariants.{Enabled};
-ghost use Rattle.twe_machine.specs.Queues.{FirstLead, IsDecided, IsQueued, MayName};
-ghost use Rattle.twe_machine.specs.Rows.{HasStatus};
+ghost use Rattle.machine_state.specs.declared.state.TaskStatus.TheVariants.{Enabled};
+ghost use Rattle.twe_machine.specs.Queues.{FirstKeepWaiting, IsDecided, IsQueued, MayName};
+ghost use Rattle.machine_state.specs.Rows.{HasStatus};
 
 use crate::bars::is_enabled;
-use crate::state::State;
+use machine_state::State;
 use std::alloc::Global;
 use twe_base::{List, Memory};
 
@@ -18,7 +18,7 @@ const SHORT_WALK: usize = 64;
 pub struct Queued {
     /// The task.
     pub task: u32,
-    /// The place of the last entry, from the first up to this one, that decides for those before it, if one does.
+    /// The place of an entry, from the first up to this one, that decides for those before it, if one is known.
     pub decider: Option<usize>,
 }
 
@@ -84,7 +84,7 @@ impl Queue {
         ensures { IfSome result (MayName st.now.links self.now.entries t) }
     {
         let count = self.entries.len();
-        if self.all_lead(st, count, t, most) {
+        if self.first_all_wait(st, count, t, most) {
             return Some(count);
         }
         match self.decider_before(count) {
@@ -119,13 +119,13 @@ impl Queue {
         requires there { at < length self.now.entries }
         requires decided { IsDecided st.now.links self.now.entries }
         ensures { IsTrue result → (e : Queued) → slice_get self.now.entries at ≡ Some e
-            → FirstLead st.now.links self.now.entries at e.task }
+            → FirstKeepWaiting st.now.links self.now.entries at e.task }
     {
         let entry = entry_at(self.entries.as_slice(), at);
         if decides(entry, at) {
             return false;
         }
-        self.all_lead(st, at, entry.task, most)
+        self.first_all_wait(st, at, entry.task, most)
     }
 
     /// Takes the tasks at the end out that are over. It takes no memory.

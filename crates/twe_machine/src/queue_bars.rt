@@ -1,18 +1,21 @@
 //! Bars among the tasks of a queue.
 //!
-//! Those that wait for a task, directly or through others, stand in the queue in the order of the waits. So one walk along the
-//! waits passes by all of them that stand one after another.
+//! Tasks that wait for one another stand in the queue in the order of the waits, since a task is enabled before those that it makes.
+//! So one walk along the waits passes by all of them that stand one after another. An example: 3 waits for 5, 5 for 8 and 8 for 9,
+//! and the queue has 3, 5, 8 in this order. Is one of them a bar to 9? The walk from 3 meets 5 and 8, which are the next entries,
+//! and comes to 9, so all three wait for 9 and none is a bar. If 8 decides for those before it, a walk from 8 alone is enough. If 8
+//! waits for nobody, no walk comes to 9, and each task whose effects interfere with those of 9 is a bar.
 ghost use Rattle.std.specs.Prelude.{◌≡◌, ◌≢◌, ◌≤◌, ◌<◌, ◌+◌, ◌↔◌, ℕ, false, length, IfNone, IfSome, IsTrue, Some, slice_get};
 ghost use Rattle.twe_machine.specs.declared.queue.Queued.{Queued};
-ghost use Rattle.twe_machine.specs.declared.state.TaskStatus.TheVariants.{Made, Enabled};
-ghost use Rattle.twe_machine.specs.Legal.{Interfere, IsBar};
-ghost use Rattle.twe_machine.specs.Queues.{AreLed, DecidesAt, IsQueued, IsDecided, IsNoBar};
-ghost use Rattle.twe_machine.specs.Rows.{EffectsAreFilled, HasStatus, LinksAgree};
+ghost use Rattle.machine_state.specs.declared.state.TaskStatus.TheVariants.{Made, Enabled};
+ghost use Rattle.machine_state.specs.Legal.{Interfere, IsBar};
+ghost use Rattle.twe_machine.specs.Queues.{AllWait, DecidesAt, IsQueued, IsDecided, IsNoBar};
+ghost use Rattle.machine_state.specs.Rows.{EffectsAreFilled, HasStatus, LinksAgree};
 ghost use Rattle.wait_graph.specs.Waiting.{IsDone, WaitsFor, WaitsOn, YieldsTo};
 
 use crate::bars::{is_bar, meets};
 use crate::queue::Queue;
-use crate::state::State;
+use machine_state::State;
 
 impl Queue {
     /// Some bar to the admission of `t` among the tasks, if there is one. It takes no memory.
@@ -27,13 +30,13 @@ impl Queue {
         if let Some(s) = self.last_bar(st, t) {
             return Some(s);
         }
-        let mut at = self.led_count(st, self.entries.len(), t, usize::MAX);
+        let mut at = self.count_by_deciders(st, self.entries.len(), t, usize::MAX);
         'looking: while at < self.entries.len() {
-            let led = self.passed_from(st, at, t);
-            if led <= at {
+            let next = self.passed_up_to(st, at, t);
+            if next <= at {
                 return Some(self.task_at(at));
             }
-            at = led;
+            at = next;
         }
         None
     }
@@ -56,7 +59,7 @@ impl Queue {
 
     /// A place after `from`, if none of the tasks from there up to that place is a bar to the admission of `t`. It is `from`
     /// if the first of them is one.
-    fn passed_from(&self, st: &State, from: usize, t: u32) -> usize
+    fn passed_up_to(&self, st: &State, from: usize, t: u32) -> usize
         requires there { from < length self.now.entries }
         requires made { HasStatus st.now t Made }
         requires agree { LinksAgree st.now }
@@ -71,41 +74,41 @@ impl Queue {
         if !meets(st, s, t) {
             return from + 1;
         }
-        let led = self.led_from(st, from, t, usize::MAX);
-        if led > from {
-            return led;
+        let next = self.end_of_walk(st, from, t, usize::MAX);
+        if next > from {
+            return next;
         }
         if bars(st, s, t) { from } else { from + 1 }
     }
 
-    /// Whether the tasks of so many first entries are all found to be done or to wait for `t`, where so many waits at most are
-    /// followed from one of them.
-    pub(crate) fn all_lead(&self, st: &State, count: usize, t: u32, most: usize) -> bool
+    /// Whether the tasks of the first `count` entries are all found to be done or to wait for `t`. At most `most` waits are followed
+    /// from one of them.
+    pub(crate) fn first_all_wait(&self, st: &State, count: usize, t: u32, most: usize) -> bool
         requires most { count ≤ length self.now.entries }
         requires decided { IsDecided st.now.links self.now.entries }
-        ensures { IsTrue result → AreLed st.now.links self.now.entries 0 count t }
+        ensures { IsTrue result → AllWait st.now.links self.now.entries 0 count t }
     {
-        if !self.last_leads(st, count, t, most) {
+        if !self.last_one_waits(st, count, t, most) {
             return false;
         }
-        let mut at = self.led_count(st, count, t, most);
+        let mut at = self.count_by_deciders(st, count, t, most);
         'leading: while at < count {
-            let led = self.led_from(st, at, t, most);
-            if led <= at {
+            let next = self.end_of_walk(st, at, t, most);
+            if next <= at {
                 return false;
             }
-            at = led;
+            at = next;
         }
         true
     }
 
-    /// Whether the last of so many first tasks waits for `t`, if there is one. It is looked at before the others, since it
-    /// tells most often.
-    fn last_leads(&self, st: &State, count: usize, t: u32, most: usize) -> bool {
-        count == 0 || leads(st, self.task_at(count - 1), t, most)
+    /// Whether the last of the first `count` tasks waits for `t`, if there is one. It is looked at before the others, since it is the
+    /// one that mostly does not.
+    fn last_one_waits(&self, st: &State, count: usize, t: u32, most: usize) -> bool {
+        count == 0 || is_found_to_wait(st, self.task_at(count - 1), t, most)
     }
 
-    /// The place of the last entry among so many first ones that decides for those before it, if one does.
+    /// The place that the last of so many first entries names as that of one that decides, if it names one.
     pub(crate) fn decider_before(&self, count: usize) -> Option<usize>
         ensures { IfSome result (λ d. (i : ℕ) × (e : Queued) × (i + 1 ≡ count) × (slice_get self.now.entries i ≡ Some e)
             × (e.decider ≡ Some d)) }
@@ -117,11 +120,11 @@ impl Queue {
         entry.decider
     }
 
-    /// How many of the first tasks are known to be done or to wait for `t`, by the last of those that decide and are not
-    /// done. Only so many first ones are looked at, and so many waits at most are followed.
-    fn led_count(&self, st: &State, among: usize, t: u32, most: usize) -> usize
+    /// How many of the first tasks are known to be done or to wait for `t`: the last task that decides and is not done says it of
+    /// those before it and of itself. Only the first `among` are looked at, and at most `most` waits are followed.
+    fn count_by_deciders(&self, st: &State, among: usize, t: u32, most: usize) -> usize
         requires { IsDecided st.now.links self.now.entries }
-        ensures { AreLed st.now.links self.now.entries 0 result t }
+        ensures { AllWait st.now.links self.now.entries 0 result t }
     {
         let mut count = among;
         'deciding: while let Some(at) = self.decider_before(count) {
@@ -129,18 +132,18 @@ impl Queue {
                 return 0;
             }
             if !is_done(st, self.task_at(at)) {
-                return self.led_up_to(st, at, t, most);
+                return self.count_by_decider_at(st, at, t, most);
             }
             count = at;
         }
         0
     }
 
-    /// How many of the first tasks are known to be done or to wait for `t`, by one that decides.
-    fn led_up_to(&self, st: &State, at: usize, t: u32, most: usize) -> usize
+    /// The same by the task at a place, which decides: those up to it if it waits for `t`, and else none.
+    fn count_by_decider_at(&self, st: &State, at: usize, t: u32, most: usize) -> usize
         requires there { at < length self.now.entries }
         requires decides { DecidesAt st.now.links self.now.entries at }
-        ensures { AreLed st.now.links self.now.entries 0 result t }
+        ensures { AllWait st.now.links self.now.entries 0 result t }
     {
         // The length is read so that a proof may use that places fit.
         let _count = self.entries.len();
@@ -148,14 +151,18 @@ impl Queue {
         if is_done(st, s) {
             return 0;
         }
-        if leads(st, s, t, most) { at + 1 } else { 0 }
+        if is_found_to_wait(st, s, t, most) {
+            at + 1
+        } else {
+            0
+        }
     }
 
-    /// The first place from `from` on whose task is not found to wait for `t` on a walk along the waits from the task at
-    /// `from`, of so many waits at most.
-    fn led_from(&self, st: &State, from: usize, t: u32, most: usize) -> usize
+    /// The first place from `from` on that a walk along the waits does not pass. The walk begins at the task at `from` and follows at
+    /// most `most` waits. The place is `from` if the walk does not come to `t`.
+    fn end_of_walk(&self, st: &State, from: usize, t: u32, most: usize) -> usize
         requires { from < length self.now.entries }
-        ensures { AreLed st.now.links self.now.entries from result t }
+        ensures { AllWait st.now.links self.now.entries from result t }
     {
         let mut at = self.task_at(from);
         let mut next = self.past(from, at);
@@ -203,8 +210,8 @@ fn is_done(st: &State, t: u32) -> bool
     t < st.links.task_count() && st.links.link(t).done
 }
 
-/// Whether a task is found to wait for `t`, directly or through others, or is `t`, where so many waits at most are followed.
-fn leads(st: &State, s: u32, t: u32, most: usize) -> bool
+/// Whether a task is found to wait for `t`, directly or through others, or is `t`. At most `most` waits are followed.
+fn is_found_to_wait(st: &State, s: u32, t: u32, most: usize) -> bool
     ensures { IsTrue result → WaitsOn st.now.links s t }
 {
     let mut at = s;

@@ -1,43 +1,23 @@
 //! Replay: the journal and the state that a list of moves leads to, or the first of the moves that is not legal.
-ghost use Rattle.std.specs.Prelude.{◌≡◌, ◌<◌, ◌+◌, ◌^◌, ◌∷◌, ◌++◌, ◌⊎◌, [], ℕ, List, length, map, IfOk, OnOk, IsErrOf, MatchResult};
+ghost use Rattle.std.specs.Prelude.{◌≡◌, ◌<◌, ◌+◌, ◌∷◌, ◌++◌, ◌⊎◌, [], ℕ, List, length, map, IfOk, OnOk, IsErrOf, MatchResult};
 ghost use Rattle.seg_journal.specs.declared.journal.Entry.{Entry};
 ghost use Rattle.seg_journal.specs.declared.moves.Move.{Move};
 ghost use Rattle.seg_journal.specs.Spelling.{move_of};
-ghost use Rattle.twe_base.specs.Limits.{Bounds};
-ghost use Rattle.twe_program.specs.Program.{Program};
-ghost use Rattle.twe_machine.specs.declared.legal.Why.{Why};
-ghost use Rattle.twe_machine.specs.declared.replaying.ReplayFail.TheVariants.{Illegal, OutOfMemory};
-ghost use Rattle.twe_machine.specs.Legal.{Forbids};
-ghost use Rattle.twe_machine.specs.Replays.{AreLegal, IsFirstIllegal, ReplayIsOutOfMemory, IsReplay};
-ghost use Rattle.twe_machine.specs.Runs.{Legal};
+ghost use Rattle.machine_state.specs.declared.why.Why.{Why};
+ghost use Rattle.machine_state.specs.declared.replay_fail.ReplayFail.TheVariants.{Illegal};
+ghost use Rattle.machine_state.specs.Legal.{Forbids};
+ghost use Rattle.machine_state.specs.Replays.{AreLegal, IsFirstIllegal, ReplayIsOutOfMemory, IsReplay};
+ghost use Rattle.machine_state.specs.Runs.{Legal};
 ghost use Rattle.twe_machine.specs.inner.UnderWay.{IsUnderWay};
 
 use crate::enabled_tasks::EnabledTasks;
 use crate::first_state::start;
-use crate::legal::Why;
 use crate::one_move::step;
-use crate::state::State;
+use machine_state::{ReplayFail, State};
 use seg_journal::{Entry, Journal, Move};
 use std::alloc::Global;
 use twe_base::{Limits, Memory};
 use twe_program::Prog;
-
-/// Why a list of moves has no replay.
-#[derive(Clone, Copy, Debug, PartialEq, Eq)]
-pub enum ReplayFail {
-    /// Move `n`, counted from 1, is the first that is not legal.
-    Illegal { n: u64, why: Why },
-    /// There was not enough memory.
-    OutOfMemory(Memory),
-}
-
-impl From<Memory> for ReplayFail {
-    ghost from_gives = { λ memory fail. fail ≡ OutOfMemory memory };
-
-    fn from(memory: Memory) -> Self {
-        ReplayFail::OutOfMemory(memory)
-    }
-}
 
 /// The state after the moves, taken one after another from the start of a run of the program under these limits. If they
 /// are not all legal, it returns the number of the first that is not, counted from 1, and why it is not.
@@ -122,17 +102,3 @@ impl Replaying {
         Ok(())
     }
 }
-
-/// Legal moves have no first illegal one. A list of moves has one first illegal move at most, and one reason for it.
-pub fn one_first_illegal()
-    ensures never_both { (p : Program) (lim : Bounds) (moves : List Move) (n : ℕ) (why : Why) → AreLegal p lim moves
-        → ¬ IsFirstIllegal p lim moves n why }
-    ensures one { (p : Program) (lim : Bounds) (moves : List Move) (n m : ℕ) (why other : Why)
-        → IsFirstIllegal p lim moves n why → IsFirstIllegal p lim moves m other → (n ≡ m) × (why ≡ other) }
-{}
-
-/// The moves of a legal journal determine it, with the end of each entry.
-pub fn moves_make_the_journal()
-    ensures { (p : Program) (lim : Bounds) (journal other : List Entry) → Legal p lim journal → Legal p lim other
-        → map move_of journal ≡ map move_of other → journal ≡ other }
-{}

@@ -1,17 +1,18 @@
 //! Running one segment of a task.
 ghost use Rattle.std.specs.Prelude.{◌≡◌, ◌<◌, length, IfOk, Some, slice_get, slice_set, option_copied};
 ghost use Rattle.twe_program.specs.Program.{cell_count};
-ghost use Rattle.twe_machine.specs.declared.state.TaskRow.{TaskRow};
-ghost use Rattle.twe_machine.specs.FramesOut.{no_frame, without_frame};
-ghost use Rattle.twe_machine.specs.Moves.{awaited_value, ran, ready_frame, value_of};
-ghost use Rattle.twe_machine.specs.Rows.{row_awaited};
-ghost use Rattle.twe_machine.specs.inner.Settling.{SettlesAfter};
+ghost use Rattle.machine_state.specs.declared.state.TaskRow.{TaskRow};
+ghost use Rattle.machine_state.specs.FramesOut.{no_frame, without_frame};
+ghost use Rattle.machine_state.specs.Moves.{awaited_value, ran, ready_frame, value_of};
+ghost use Rattle.machine_state.specs.Rows.{row_awaited};
+ghost use Rattle.machine_state.specs.inner.Settling.{SettlesAfter};
 
 use crate::settling::settle;
-use crate::state::{State, TaskRow};
 use crate::storing::awaited;
-use seg_exec::{Children, Frame, Next, run_segment_over_list};
+use machine_state::{State, TaskRow};
+use seg_exec::run_segment_over_list;
 use seg_journal::{End, Limits};
+use seg_meaning::{Children, Frame, Next};
 use std::alloc::Global;
 use std::mem;
 use twe_base::{Ints, List, Memory};

@@ -1,18 +1,18 @@
 //! Settling a segment that has stopped: the state after it.
 ghost use Rattle.std.specs.Prelude.{◌≡◌, ◌<◌, length, IfOk, OnOk, slice_get};
 ghost use Rattle.std.specs.Option.{ForSome};
-ghost use Rattle.twe_machine.specs.declared.state.TaskRow.{TaskRow};
-ghost use Rattle.twe_machine.specs.Moves.{MaySettle, going_row, state_after_storing, settling_result, stop_result};
-ghost use Rattle.twe_machine.specs.Rows.{IsRow, row_awaited};
+ghost use Rattle.machine_state.specs.declared.state.TaskRow.{TaskRow};
+ghost use Rattle.machine_state.specs.Moves.{MaySettle, going_row, state_after_storing, settling_result, stop_result};
+ghost use Rattle.machine_state.specs.Rows.{IsRow, row_awaited};
 
 use crate::making::{Asking, ask};
 use crate::new_task::NewTask;
-use crate::state::State;
 use crate::storing::store_frame;
 use crate::taken_joins::take_join;
 use crate::task_end::{fail, finish};
-use seg_exec::{Frame, Stop};
+use machine_state::State;
 use seg_journal::{End, Limits};
+use seg_meaning::{Frame, Stop};
 use std::alloc::Global;
 use twe_base::Memory;
 

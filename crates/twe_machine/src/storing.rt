@@ -1,12 +1,12 @@
 //! Storing the frame of a segment that has stopped in the row of its task.
 ghost use Rattle.std.specs.Prelude.{◌≡◌, ◌<◌, ◌++◌, length, OnOk};
 ghost use Rattle.std.specs.Option.{ForSome};
-ghost use Rattle.twe_machine.specs.declared.state.TaskRow.{TaskRow};
-ghost use Rattle.twe_machine.specs.Moves.{frame_without_prints, going_row, state_after_storing};
-ghost use Rattle.twe_machine.specs.Rows.{IsRow, row_awaited};
+ghost use Rattle.machine_state.specs.declared.state.TaskRow.{TaskRow};
+ghost use Rattle.machine_state.specs.Moves.{frame_without_prints, going_row, state_after_storing};
+ghost use Rattle.machine_state.specs.Rows.{IsRow, row_awaited};
 
-use crate::state::State;
-use seg_exec::{Frame, Next};
+use machine_state::State;
+use seg_meaning::{Frame, Next};
 use std::alloc::Global;
 use twe_base::{Ints, List, Memory};
 

@@ -2,11 +2,11 @@
 ghost use Rattle.std.specs.Prelude.{◌≡◌, ◌<◌, ◌==◌, length, IfSome};
 ghost use Rattle.std.specs.List.{list_any};
 ghost use Rattle.wait_graph.specs.Link.{link_of};
-ghost use Rattle.twe_machine.specs.declared.state.TaskRow.{TaskRow};
-ghost use Rattle.twe_machine.specs.Moves.{state_after_join, joined_child};
-ghost use Rattle.twe_machine.specs.Rows.{IsRow};
+ghost use Rattle.machine_state.specs.declared.state.TaskRow.{TaskRow};
+ghost use Rattle.machine_state.specs.Moves.{state_after_join, joined_child};
+ghost use Rattle.machine_state.specs.Rows.{IsRow};
 
-use crate::state::State;
+use machine_state::State;
 
 /// Whether this child is among the children.
 fn has_child(children: &[u32], child: u32) -> bool

@@ -2,15 +2,15 @@
 ghost use Rattle.std.specs.Prelude.{◌≡◌, ◌<◌, length, IfOk, OnOk};
 ghost use Rattle.std.specs.Option.{ForSome};
 ghost use Rattle.seg_journal.specs.declared.journal.End.TheVariants as ends;
-ghost use Rattle.twe_machine.specs.declared.state.TaskRow.{TaskRow};
-ghost use Rattle.twe_machine.specs.declared.state.TaskStatus.TheVariants.{Done};
-ghost use Rattle.twe_machine.specs.Moves.{state_after_fault, state_after_finish, first_fault_of, stopped_frame};
-ghost use Rattle.twe_machine.specs.Rows.{IsRow, row_awaited};
+ghost use Rattle.machine_state.specs.declared.state.TaskRow.{TaskRow};
+ghost use Rattle.machine_state.specs.declared.state.TaskStatus.TheVariants.{Done};
+ghost use Rattle.machine_state.specs.Moves.{state_after_fault, state_after_finish, first_fault_of, stopped_frame};
+ghost use Rattle.machine_state.specs.Rows.{IsRow, row_awaited};
 
-use crate::state::{FirstFault, State, TaskRow, TaskStatus};
 use crate::storing::store_frame;
-use seg_exec::{Frame, Next};
+use machine_state::{FirstFault, State, TaskRow, TaskStatus};
 use seg_journal::{End, FaultKind};
+use seg_meaning::{Frame, Next};
 use std::alloc::Global;
 use twe_base::{List, Memory, Place};
 

@@ -8,7 +8,7 @@ ghost use Rattle.twe_names.specs.FromText.{IsSmall, IsSmallInCell};
 ghost use Rattle.twe_names.specs.inner.Numbers.{IsSmallCellPath, IsSmallPath};
 ghost use Rattle.twe_names.specs.PathMeaning.{before_star, cell_path_of, elem_of_cell_kind, elem_of_kind, elems_of, param_number, path_meaning, region_number};
 
-use name_check::{Global, Globals, Local, Locals};
+use name_check::{Global, Globals, Local, Locals, is_star};
 use region_paths::{Elem, Elems};
 use std::alloc;
 use twe_ast::{CellElem, CellElemKind, CellPath, Path, PathElem, PathElemKind};
@@ -68,16 +68,6 @@ fn elements(
         add_element(&mut elems, globals, params, &elem.kind)?;
     }
     Ok(elems)
-}
-
-/// Whether an element is a `*`.
-fn is_star(elem: &PathElem) -> bool
-    ensures { result ≡ is_star elem.now }
-{
-    match elem.kind {
-        PathElemKind::Star => true,
-        _ => false,
-    }
 }
 
 /// The number of elements before the first `*`.

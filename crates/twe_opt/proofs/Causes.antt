@@ -1,7 +1,6 @@
 -- From what the parts of a call ensure to the cause of its answer.
-use Rattle.std.proofs.Common.{◌≡◌, ◌≤◌, ℕ, List, [], ◌∷◌, Option, None, Some, Result, Ok, Err, IfOk, refl, sym, subst}
+use Rattle.std.proofs.Common.{◌≡◌, ◌≤◌, ℕ, List, [], ◌∷◌, Option, None, Some, refl, sym, subst}
 use Rattle.std.proofs.lemmas.Option.{none-some, same_Some}
-use Rattle.twe_base.specs.declared.memory.Memory as out_of
 use Rattle.command_line.specs.declared.command.Command.{Command}
 use Rattle.command_line.specs.Numbers.{number_between}
 use Rattle.command_line.specs.Options.{max_workers}
@@ -32,8 +31,7 @@ asked_range (word ∷ next ∷ others) command asked = absurd (none-some command
 
 -- the answer to the run that the words ask for
 pub cause_asked : {S : Type 0} (tells : SourceTells S) (words : List (List ℕ)) (before after : S) (book : Book) (command : Command)
-    (made : Result Answer out_of.Memory) → command_asked words ≡ Some command → IfOk made (Cause tells command before after book)
-    → IfOk made (CauseOfWords tells opt_usage_text (command_asked words) before after book)
-cause_asked tells words before after book command (Ok answer) asked cause =
+    (answer : Answer) → command_asked words ≡ Some command → Cause tells command before after book answer
+    → CauseOfWords tells opt_usage_text (command_asked words) before after book answer
+cause_asked tells words before after book command answer asked cause =
     subst (λ (meaning : Option Command). CauseOfWords tells opt_usage_text meaning before after book answer) (sym asked) cause
-cause_asked tells words before after book command (Err memory) asked cause = tt

@@ -1,26 +1,30 @@
 //! The top call: the whole program, apart from where its bytes come from and go to.
 ghost use Rattle.std.specs.Prelude.{◌≤◌, IfOk};
+ghost use Rattle.command_line.specs.Options.{max_workers};
 ghost use Rattle.command_line.specs.Words.{IsSized, workers_of};
 ghost use Rattle.twe_io.specs.Ends.{ends, ends_tell, sink, source};
 ghost use Rattle.text_answers.specs.Causes.{Answers, Cause, CauseOfWords};
+ghost use Rattle.text_answers.specs.Running.{IsWholeRun};
 ghost use Rattle.text_answers.specs.Theorem.{IsNew};
 ghost use Rattle.twe_opt.specs.Words.{command_asked, opt_usage_text};
 
 use crate::text::usage_text;
 use crate::words::command_asked;
 use command_line::Command;
+use flat_sched::WholeRun;
 use opt_crew::run_ahead;
 use std::alloc::Global;
 use std::mem;
 use std::sync::Wait;
 use std::thread::Threads;
-use text_answers::{Book, Started, answer_run, start_command};
+use text_answers::{AskedRun, Book, Reply, Started, answer_run, run_alone, start_command};
 use twe_base::{Memory, Word};
 use twe_io::{Answer, Sink, Source, Status, tell};
+use twe_program::Prog;
 
 /// Reads the text of a program from the source, checks it, and runs it by as many workers as the one word says, which run ahead
-/// of admission. Writes what `twe run` with as many workers and the default limits writes. Which of the legal journals the run
-/// has depends on the workers.
+/// of admission. Writes what `twe run` with as many workers and the default limits writes. By one worker the run is the
+/// lowest-first one. By several it depends on them which of the legal journals it has.
 ///
 /// `Answers` says what each status means and what is written with it. If the words are not one number from 1 to 64, the answer is
 /// the usage line, and nothing is read from the source. Afterwards the book has the program, the journal of its run and how the
@@ -44,7 +48,7 @@ pub fn opt_top<R: Threads + Wait + Sync, S: Source, O: Sink, E: Sink>(
     tell(&made, out, err)
 }
 
-/// The answer to these words.
+/// The answer to these words. Afterwards the book has what has led to it.
 fn answer<R: Threads + Wait + Sync, S: Source>(
     rt: &R,
     alloc: Global,
@@ -57,33 +61,56 @@ fn answer<R: Threads + Wait + Sync, S: Source>(
         src.old src.new book.new) }
 {
     match command_asked(words) {
-        Some(cmd) => answer_command(rt, alloc, &cmd, src, book),
+        Some(cmd) => {
+            let reply = answer_command(rt, alloc, &cmd, src)?;
+            let Reply { answer, book: made } = reply;
+            *book = made;
+            Ok(answer)
+        }
         None => Ok(Answer::on_err(alloc, Status::Usage, usage_text(alloc)?)),
     }
 }
 
-/// The answer to a command that asks for workers: reads its input, checks the text, and runs the program.
+/// The reply to a command that asks for workers: reads its input, checks the text, and runs the program.
 fn answer_command<R: Threads + Wait + Sync, S: Source>(
     rt: &R,
     alloc: Global,
     cmd: &Command,
     src: &mut S,
-    book: &mut Book,
-) -> Result<Answer, Memory>
-    requires new { IsNew book.old }
+) -> Result<Reply, Memory>
     requires sized { IsSized cmd.now }
     requires some { 1 ≤ workers_of cmd.now }
-    ensures { IfOk result (Cause (source S.left S.faults S.read_gives) cmd.now src.old src.new book.new) }
+    ensures { IfOk result (λ reply. Cause (source S.left S.faults S.read_gives) cmd.now src.old src.new reply.book reply.answer) }
 {
-    let started = start_command(alloc, cmd, src, book)?;
+    let started = start_command(alloc, cmd, src)?;
     match started {
-        Started::Answered(answer) => Ok(answer),
-        Started::ToRun { p, lim } => {
-            let (journal, st) = run_ahead(rt, alloc, &p, lim, cmd.workers())?;
-            let answer = answer_run(alloc, cmd, p, journal, &st, book)?;
-            // The program ends with this answer, so it does not take the state apart.
-            mem::forget(st);
-            Ok(answer)
+        Started::Answered(reply) => Ok(reply),
+        Started::ToRun { p, asked } => {
+            let run = run_program(rt, alloc, &p, &asked)?;
+            let (reply, state) = answer_run(alloc, &asked, p, run)?;
+            // The program ends with this reply, so it does not take the state apart.
+            mem::forget(state);
+            Ok(reply)
         }
+    }
+}
+
+/// Runs a program by as many workers as are asked for. One worker has nobody to run ahead of, so the run is the lowest-first one,
+/// on the calling thread. Several run ahead of admission, on threads of their own.
+fn run_program<R: Threads + Wait + Sync>(
+    rt: &R,
+    alloc: Global,
+    p: &Prog,
+    asked: &AskedRun,
+) -> Result<WholeRun, Memory>
+    requires some { 1 ≤ asked.now.workers }
+    requires few { asked.now.workers ≤ max_workers }
+    ensures { IfOk result (IsWholeRun p.now asked.now) }
+{
+    let workers = asked.workers;
+    if workers == 1 {
+        run_alone(alloc, p, asked)
+    } else {
+        run_ahead(rt, alloc, p, asked.limits, workers)
     }
 }

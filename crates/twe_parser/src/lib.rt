@@ -26,5 +26,5 @@ mod wait_productions;
 
 pub use fail::{ParseFail, SRule};
 pub use laws::{no_program, one_tree};
-pub use limits::Sofar;
+pub use limits::{Sofar, opens};
 pub use text::parse;

@@ -20,7 +20,7 @@ pub struct Sofar {
 }
 
 /// Whether the token opens a bracket.
-fn opens(kind: &TokenKind) -> bool
+pub fn opens(kind: &TokenKind) -> bool
     ensures { result ≡ opens kind.now }
 {
     matches!(

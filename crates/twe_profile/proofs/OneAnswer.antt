@@ -3,9 +3,9 @@ use Rattle.std.proofs.Common.{◌≡◌, ℕ, List}
 use Rattle.seg_journal.specs.declared.moves.Move.{Move}
 use Rattle.twe_base.specs.Limits.{Bounds}
 use Rattle.twe_program.specs.Program.{Program}
-use Rattle.twe_machine.specs.declared.legal.Why.{Why}
-use Rattle.twe_machine.specs.Replays.{IsFirstIllegal}
-use Rattle.twe_machine.proofs.replays.Replayed.{never_both}
+use Rattle.machine_state.specs.declared.why.Why.{Why}
+use Rattle.machine_state.specs.Replays.{IsFirstIllegal}
+use Rattle.machine_state.proofs.replays.Replayed.{never_both}
 use Rattle.span_profile.specs.Profiles.{IsProfile}
 use Rattle.twe_io.specs.declared.answer.Answer.{Answer}
 use Rattle.twe_io.specs.Answers.{on_out}

@@ -1,16 +1,16 @@
 //! The answer to the moves of a journal.
 ghost use Rattle.std.specs.Prelude.{◌≡◌, ℕ, IfOk, IsErrOf};
-ghost use Rattle.twe_machine.specs.declared.legal.Why.{Why};
-ghost use Rattle.twe_machine.specs.declared.replaying.ReplayFail.TheVariants.{Illegal};
-ghost use Rattle.twe_machine.specs.Replays.{IsFirstIllegal};
+ghost use Rattle.machine_state.specs.declared.why.Why.{Why};
+ghost use Rattle.machine_state.specs.declared.replay_fail.ReplayFail.TheVariants.{Illegal};
+ghost use Rattle.machine_state.specs.Replays.{IsFirstIllegal};
 ghost use Rattle.twe_profile.specs.Answers.{ProfileGiven};
 
 use crate::text::profile_text;
+use machine_state::ReplayFail;
 use seg_journal::{Limits, Move};
 use span_profile::profile;
 use std::alloc::Global;
 use twe_io::{Answer, Status};
-use twe_machine::ReplayFail;
 use twe_program::Prog;
 
 /// The profile of these moves, or the number of the first that is not legal, counted from 1.

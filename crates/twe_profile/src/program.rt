@@ -4,12 +4,12 @@ ghost use Rattle.twe_profile.specs.Texts.{profile_usage_text};
 
 use crate::answering::profile_answer;
 use crate::text::usage_text;
+use machine_state::ReplayFail;
 use seg_journal::{Limits, Move};
 use std::alloc::Global;
 use text_answers::{JournalProgram, answer_with_journal};
 use twe_base::{Bytes, Memory, Word};
 use twe_io::Answer;
-use twe_machine::ReplayFail;
 use twe_program::Prog;
 use twe_report::{TextProgram, without_words};
 

@@ -22,9 +22,9 @@ use Rattle.effect_check.specs.declared.rule.ERule.TheVariants.{E1, E2, E3, E4, E
 use Rattle.twe_frontend.specs.declared.refusal.Refusal.{Refusal}
 use Rattle.twe_frontend.specs.declared.refusal.RuleName.{RuleName}
 use Rattle.twe_frontend.specs.declared.refusal.RuleName.TheVariants.{Text, Name, Effect}
-use Rattle.twe_machine.specs.declared.state.State.{State}
-use Rattle.twe_machine.specs.declared.state.TaskRow.{TaskRow}
-use Rattle.twe_machine.specs.Rows.{is_done_row}
+use Rattle.machine_state.specs.declared.state.State.{State}
+use Rattle.machine_state.specs.declared.state.TaskRow.{TaskRow}
+use Rattle.machine_state.specs.Rows.{is_done_row}
 
 -- the text as a line
 abbrev pub line : List ℕ → List ℕ

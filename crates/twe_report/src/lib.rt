@@ -16,7 +16,8 @@ mod unfinished;
 
 pub use journal::journal_part;
 pub use lines::{
-    accepted_text, fault_text, not_a_move_text, not_legal_text, refusal_text, usage_text,
+    accepted_text, fault_text, not_a_move_text, not_legal_text, push_place, refusal_text,
+    usage_text,
 };
 pub use load::load_result_text;
 pub use program::{TextProgram, by_word, without_words};
@@ -24,4 +25,4 @@ pub use reading::{Input, read_input};
 pub use result::{prints_text, result_text};
 pub use run::run_text_program;
 pub use stuck::stuck_text;
-pub use unfinished::unfinished_text;
+pub use unfinished::{undone, unfinished_text};

@@ -167,7 +167,7 @@ fn name_of(rule: RuleName) -> &'static [u8]
 }
 
 /// Appends a place to a text, as `3:28`.
-fn push_place(text: &mut Bytes, place: Place) -> Result<(), Memory>
+pub fn push_place(text: &mut Bytes, place: Place) -> Result<(), Memory>
     ensures { OnOk result (text.new ≡ text.old ++ place_text place) }
 {
     text.push_all(Buffer::new().format(place.line).as_bytes())?;

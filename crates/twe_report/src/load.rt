@@ -4,9 +4,9 @@ ghost use Rattle.twe_report.specs.Texts as texts;
 
 use crate::result::push_value;
 use itoa::Buffer;
+use machine_state::State;
 use std::alloc::Global;
 use twe_base::{Bytes, Memory};
-use twe_machine::State;
 
 /// The result of a run of the load generator's program for `n` cells: `n`, the number of tasks that were made, and the value of
 /// the cell `s`, which is the first that the program declares.

@@ -5,9 +5,9 @@ ghost use Rattle.twe_report.specs.Texts.{prints_text, printed_line, value_text, 
 ghost use Rattle.twe_report.specs.Texts as texts;
 
 use itoa::Buffer;
+use machine_state::State;
 use std::alloc::Global;
 use twe_base::{Bytes, Memory};
-use twe_machine::State;
 use twe_program::{CellDecl, Dims, Prog};
 
 /// The result of a run: the printed numbers, the cells in the order of their declaration, and the number of tasks that

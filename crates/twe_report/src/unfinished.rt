@@ -4,9 +4,9 @@ ghost use Rattle.twe_report.specs.Texts.{is_undone};
 ghost use Rattle.twe_report.specs.Texts as texts;
 
 use itoa::Buffer;
+use machine_state::{State, TaskRow, TaskStatus};
 use std::alloc::Global;
 use twe_base::{Bytes, Memory};
-use twe_machine::{State, TaskRow, TaskStatus};
 
 /// The line of a run that is unfinished in this state, as `unfinished: 1 of 2 tasks not done`.
 pub fn unfinished_text(alloc: Global, st: &State) -> Result<Bytes, Memory>
@@ -22,7 +22,7 @@ pub fn unfinished_text(alloc: Global, st: &State) -> Result<Bytes, Memory>
 
 /// The number of tasks that are not done.
 #[tactic(auto, using(std::proofs::lemmas::List::Sums::count_by_more_yes, std::proofs::lemmas::List::Sums::count_by_more_no))]
-fn undone(rows: &[TaskRow]) -> usize
+pub fn undone(rows: &[TaskRow]) -> usize
     ensures { result ≡ count_by is_undone rows.now }
 {
     let mut count = 0;

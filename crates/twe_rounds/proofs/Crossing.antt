@@ -1,6 +1,5 @@
 -- A program may be shared by threads: its parts are data, and its trees are shared as their parts are.
-use denote.Param.Send.{IsSync, plain_sync, recorded_sync, shr_sync, struct_sync, view_sync, sendable}
-use denote.Ref.{NamedLft}
+use denote.Param.Send.{IsSync, plain_sync, recorded_sync, struct_sync, sendable}
 use denote.Param.SendFields.{as_row_sync}
 use denote.Struct.Declared.{shape}
 use denote.Struct.Tuple.{TupleAt, field_at, type_at}
@@ -29,12 +28,6 @@ use Rattle.twe_program.specs.contracts.stmt.Block as Block
 use Rattle.twe_program.specs.contracts.program.Body as Body
 use Rattle.twe_program.specs.contracts.program.Decl as Decl
 use Rattle.twe_program.specs.contracts.program.Prog as Prog
-use Rattle.std.proofs.alloc.Global.TheSendSync as global
-use Rattle.std.proofs.marker.PhantomData.TheSendSync as phantom
-use Rattle.twe_base.proofs.limits.Limits.TheSendSync as limits
-use Rattle.twe_rounds.specs.contracts.game.Game as Game
-use Rattle.twe_rounds.specs.contracts.game.Game.TheInside as inside
-use Rattle.twe_rounds.specs.declared.named.RoundName.{Ghosts}
 
 truth : IsSync (as_row bool-field)
 truth = as_row_sync bool-field (plain_sync _ _ _ _ _)
@@ -79,11 +72,3 @@ prog_sync = search (decl_sync, cells.the_sync, word.the_sync, list.the_sync, hea
 pub tuple_sync : (name : Sym) (R : RattleType) → IsSync R → IsSync (TupleAt name (R ∷ []))
 tuple_sync name R s =
     recorded_sync (field_at name (R ∷ [])).row _ _ (type_at name (R ∷ [])).to_one (struct_sync (shape (type_at name (R ∷ []))) (s, tt))
-
--- the game may be shared by threads: its program, its limits and its allocator are
-pub game_sync : (ℓ : NamedLft) (T : RattleType) (n : Ghosts T.Denot) → IsSync (Game.the_row ℓ T n)
-game_sync ℓ T n =
-    view_sync (inside.the_row ℓ T n) _ _ _ _
-    (recorded_sync (inside.the_field ℓ T n).row _ _ (inside.the_type ℓ T n).to_one
-    (struct_sync (shape (inside.the_type ℓ T n))
-    (global.the_field_sync, (shr_sync _ _ Prog.the_row prog_sync, (limits.the_sync, (phantom.the_field_sync T, tt))))))

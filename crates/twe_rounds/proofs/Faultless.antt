@@ -2,7 +2,7 @@
 use Rattle.std.proofs.Common.{◌≡◌, Bool, List, [], ◌∷◌, ◌++◌, true, false, refl, ap, ◌∙◌}
 use Rattle.std.specs.Prelude.{if◌then◌else◌}
 use Rattle.seg_journal.specs.declared.journal.Entry.{Entry}
-use Rattle.twe_machine.specs.Runs.{counted, is_fault}
+use Rattle.machine_state.specs.Runs.{counted, is_fault}
 use Rattle.twe_rounds.specs.Keeping.{NoFaults}
 
 -- one entry more that is no fault

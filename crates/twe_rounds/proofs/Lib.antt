@@ -4,5 +4,5 @@ pub mod Beginnings
 pub mod Faultless
 -- a program may be shared by threads
 pub mod Crossing
--- a quiet step that does not move finds that the run is over
+-- a quiet step that does not move finds how the run has ended
 pub mod Endings

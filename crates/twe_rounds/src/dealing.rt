@@ -3,10 +3,10 @@ ghost use Rattle.std.specs.Prelude.{◌≡◌, All};
 
 use crate::own_deck::OwnDeck;
 use crate::worker::Worker;
+use machine_state::{State, TaskStatus};
 use std::alloc::Global;
 use steal_pool::{Deck, Decks, make_decks};
 use twe_base::Memory;
-use twe_machine::{State, TaskStatus};
 
 /// The workers of a round, and how many numbers they have to deal with.
 #[derive(Drop)]

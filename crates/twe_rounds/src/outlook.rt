@@ -1,6 +1,6 @@
 //! What a worker finds of a task.
 
-use twe_machine::{State, TaskStatus};
+use machine_state::{State, TaskStatus};
 
 /// How many waits are followed from one task. A number that a worker takes from a deck may be of a task that waits since long, in
 /// the middle of a chain of thousands. Whoever made the last move of the chain has looked at its end already.

@@ -23,6 +23,8 @@ pub struct RoundProgress {
     stage: AtomicU64,
     // How many workers are at work.
     workers: AtomicU64,
+    // How many of them sleep.
+    sleepers: AtomicU64,
 }
 
 impl RoundProgress {
@@ -32,6 +34,7 @@ impl RoundProgress {
             word: AtomicU64::new(pending),
             stage: AtomicU64::new(0),
             workers: AtomicU64::new(0),
+            sleepers: AtomicU64::new(0),
         }
     }
 
@@ -117,7 +120,16 @@ impl RoundProgress {
 
     /// Sleeps a little, unless the round stands otherwise than the caller has read.
     pub(crate) fn nap<R: Wait>(&self, rt: &R, seen: u64) {
+        self.sleepers.fetch_add(1, Ordering::SeqCst);
         self.word
             .park_timeout(rt, (seen % UPPER) as u32, Duration::from_micros(NAP));
+        self.sleepers.fetch_sub(1, Ordering::SeqCst);
+    }
+
+    /// Wakes a worker that sleeps, if one does: there is a number on a deck.
+    pub(crate) fn wake(&self) {
+        if self.sleepers.load(Ordering::SeqCst) > 0 {
+            self.word.wake_one();
+        }
     }
 }

@@ -1,7 +1,8 @@
 //! A worker's list of the tasks that wait, and of those that are held back.
 //!
 //! A task that waits is kept beside the task that it waits for, and a task that is held back beside a bar to it. The worker
-//! says which tasks have ended, or reads it in the journal, and tries again what was kept beside them.
+//! says which tasks have ended, or reads it in the journal, and tries again what was kept beside them. What others keep beside a task
+//! that this worker ends is handed to it, too.
 
 use seg_journal::{End, Entry};
 use std::alloc::Global;
@@ -20,7 +21,9 @@ pub struct Waiting {
     ready: Vec<u32>,
     // Tasks whose bar has ended. If one of them meets a bar again, the rest waits for the end of that bar.
     freed: Vec<u32>,
-    // Whether the last task that was tried was one of those.
+    // Tasks whose bar this worker has ended, and which any worker may try.
+    shared: Vec<u32>,
+    // Whether the last task that was tried was one of those that were freed together.
     was_freed: bool,
     // How many entries of the journal were read.
     read: usize,
@@ -35,6 +38,7 @@ impl Waiting {
             held: BTreeMap::new(alloc),
             ready: Vec::new(alloc),
             freed: Vec::new(alloc),
+            shared: Vec::new(alloc),
             was_freed: false,
             read,
         }
@@ -47,6 +51,17 @@ impl Waiting {
             self.ready.push(next)?;
         }
         Ok(())
+    }
+
+    /// Makes tasks ready whose bar this worker has ended, and which any worker may try.
+    pub fn free(&mut self, tasks: &mut Vec<u32>) -> Result<(), Memory> {
+        self.shared.append(tasks)?;
+        Ok(())
+    }
+
+    /// Takes a task that any worker may try, if there is one.
+    pub(crate) fn take_shared(&mut self) -> Option<u32> {
+        self.shared.pop()
     }
 
     /// Keeps a task until its bar has ended.
@@ -86,18 +101,20 @@ impl Waiting {
 
     /// Whether some task is to be tried.
     pub fn is_ready(&self) -> bool {
-        !self.ready.is_empty() || !self.freed.is_empty()
+        !self.ready.is_empty() || !self.freed.is_empty() || !self.shared.is_empty()
     }
 
     /// The next task to be tried.
     pub fn next(&mut self) -> Option<u32> {
+        self.was_freed = false;
         if let Some(task) = self.ready.pop() {
-            self.was_freed = false;
             return Some(task);
         }
-        let task = self.freed.pop()?;
-        self.was_freed = true;
-        Some(task)
+        if let Some(task) = self.freed.pop() {
+            self.was_freed = true;
+            return Some(task);
+        }
+        self.shared.pop()
     }
 
     /// Makes every task of the list ready.

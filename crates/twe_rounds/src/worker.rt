@@ -1,16 +1,19 @@
 //! A worker of a round. It takes numbers of tasks from the decks and makes the moves of those tasks.
 
-use crate::access::RoundAccess;
+use crate::access::{HeldAt, RoundAccess};
 use crate::outlook::Outlook;
 use crate::own_deck::OwnDeck;
 use crate::progress::RoundProgress;
 use crate::waiting::Waiting;
 use crossbeam_utils::Backoff;
-use run_gates::Gate;
 use seg_journal::End;
 use std::alloc::Global;
 use std::sync::Wait;
+use steal_pool::gates::Gate;
 use twe_base::Memory;
+
+/// How many tasks a worker offers to the others before it runs a segment.
+const MOST_OFFERED: u32 = 4;
 
 /// What all workers of a round share beside the core and the decks.
 #[derive(Drop)]
@@ -82,13 +85,13 @@ impl Worker {
             // It is read before the decks and the list are looked at, and again after it.
             let before = site.progress.read();
             if let Some(number) = self.take(rt) {
-                self.serve(rt, access, site, Some(number));
+                self.deal_with(rt, access, site, Some(number));
                 backoff.reset();
                 continue;
             }
             if self.finds_ready(access) {
                 site.progress.add();
-                self.serve(rt, access, site, None);
+                self.deal_with(rt, access, site, None);
                 backoff.reset();
                 continue;
             }
@@ -146,7 +149,7 @@ impl Worker {
     ) {
         self.stopped = self.stopped || self.waiting.ready_all().is_err();
         site.progress.add();
-        self.serve(rt, access, site, None);
+        self.deal_with(rt, access, site, None);
         if !self.moved {
             self.reach(site.progress, stage);
         }
@@ -159,7 +162,7 @@ impl Worker {
     }
 
     /// Deals with a number, if there is one, and then with each task whose wait has ended. Then that is dealt with.
-    fn serve<R: Wait, A: RoundAccess, G: Gate>(
+    fn deal_with<R: Wait, A: RoundAccess, G: Gate>(
         &mut self,
         rt: &R,
         access: &mut A,
@@ -197,14 +200,42 @@ impl Worker {
         task: u32,
     ) -> Result<(), Memory> {
         for _ in rt.forever() {
-            match access.look(task)? {
+            match access.outlook(task)? {
                 Outlook::Over => return Ok(()),
                 Outlook::Waits { on, next } => return self.waiting.wait(task, on, next),
-                Outlook::Held { by } => return self.waiting.hold(task, by),
-                Outlook::Runs => self.segment(access, site, task)?,
+                Outlook::Held { by } => match access.keep(task, by)? {
+                    HeldAt::Bar => return Ok(()),
+                    HeldAt::Nowhere => return self.waiting.hold(task, by),
+                    HeldAt::EndedBar => (),
+                },
+                Outlook::Runs => {
+                    self.offer(site);
+                    self.segment(access, site, task)?;
+                }
             }
         }
         unreachable!()
+    }
+
+    /// Offers a few of the tasks that it has freed to the others, before it runs a segment. One for which there is no room on the
+    /// deck is dealt in the next round.
+    fn offer<G: Gate>(&mut self, site: &Site<'_, G>) {
+        for _ in 0..MOST_OFFERED {
+            let Some(task) = self.waiting.take_shared() else {
+                return;
+            };
+            self.push_to_deck(site, task);
+        }
+    }
+
+    /// Pushes a number to the worker's deck, if there is room, and wakes one that sleeps.
+    fn push_to_deck<G: Gate>(&mut self, site: &Site<'_, G>, number: u32) {
+        site.progress.add();
+        if self.deck.push(number) {
+            site.progress.wake();
+        } else {
+            site.progress.finish(false);
+        }
     }
 
     /// Passes the gate and runs a segment of the task, if it is still legal then. A task that the segment makes is pushed,
@@ -215,13 +246,13 @@ impl Worker {
         site: &Site<'_, G>,
         task: u32,
     ) -> Result<(), Memory> {
-        self.moved = true;
         site.gate.pass(task);
-        if let Some(End::Made { child }) = access.run(task)? {
-            site.progress.add();
-            if !self.deck.push(child) {
-                site.progress.finish(false);
-            }
+        let Some(end) = access.run(task)? else {
+            return Ok(());
+        };
+        self.moved = true;
+        if let End::Made { child } = end {
+            self.push_to_deck(site, child);
         }
         Ok(())
     }

@@ -3,13 +3,13 @@ use Rattle.std.proofs.Common.{◌≡◌, ℕ, ℤ, Bool, List, refl, sym, ap, �
 use Rattle.twe_base.specs.declared.place.Place.{Place}
 use Rattle.effect_sets.specs.declared.effects.Summary.{Summary}
 use Rattle.twe_program.specs.Program.{Program}
-use Rattle.seg_exec.specs.declared.frame.Frame.{Frame}
-use Rattle.seg_exec.specs.declared.stop.Stop.{Stop}
-use Rattle.seg_exec.specs.declared.stop.Stop.TheVariants.{Make, Waits, Joins, Done, Fault}
-use Rattle.seg_exec.specs.Access.{Agrees, after}
-use Rattle.seg_exec.specs.Segment.{Stopped, segment}
-use Rattle.seg_exec.proofs.Determined.{segment_determined}
-use Rattle.twe_machine.specs.segment_laws.Ready.{IsReady}
+use Rattle.seg_meaning.specs.declared.frame.Frame.{Frame}
+use Rattle.seg_meaning.specs.declared.stop.Stop.{Stop}
+use Rattle.seg_meaning.specs.declared.stop.Stop.TheVariants.{Make, Waits, Joins, Done, Fault}
+use Rattle.seg_meaning.specs.Access.{Agrees, after}
+use Rattle.seg_meaning.specs.Segment.{Stopped, segment}
+use Rattle.seg_meaning.proofs.Determined.{segment_determined}
+use Rattle.machine_state.specs.segment_laws.Ready.{IsReady}
 use Rattle.determinism_laws.specs.numbering.Renumbering.{Numbering, SameButNumbers, stop_renumbered, stopped_renumbered}
 use Rattle.determinism_laws.specs.numbering.SameAccesses.{DoesTheSame}
 use Rattle.determinism_laws.proofs.numbering.Renumbered.{same_segment}

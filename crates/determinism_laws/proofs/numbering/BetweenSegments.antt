@@ -4,13 +4,13 @@ use Rattle.std.specs.Prelude.{◌==◌, Contains, if◌then◌else◌, map, opti
 use Rattle.std.proofs.lemmas.Bool.{eq-eqb, eqb-true}
 use Rattle.std.proofs.lemmas.List.{map-append}
 use Rattle.twe_program.specs.Program.{Program}
-use Rattle.seg_exec.specs.declared.frame.Frame.{Frame}
-use Rattle.seg_exec.specs.declared.frame.Next.{Next}
-use Rattle.seg_exec.specs.declared.frame.Next.TheVariants.{Go, Get, Join, Closing, Ended}
-use Rattle.seg_exec.specs.Entry.{entry_frame, future_count_of}
-use Rattle.seg_exec.specs.Giving.{given, given_by, without}
-use Rattle.twe_machine.specs.Moves.{making_frame, out_with}
-use Rattle.twe_machine.specs.Rows.{row_awaited}
+use Rattle.seg_meaning.specs.declared.frame.Frame.{Frame}
+use Rattle.seg_meaning.specs.declared.frame.Next.{Next}
+use Rattle.seg_meaning.specs.declared.frame.Next.TheVariants.{Go, Get, Join, Closing, Ended}
+use Rattle.seg_meaning.specs.Entry.{entry_frame, future_count_of}
+use Rattle.seg_meaning.specs.Giving.{given, given_by, without}
+use Rattle.machine_state.specs.Moves.{making_frame, out_with}
+use Rattle.machine_state.specs.Rows.{row_awaited}
 use Rattle.determinism_laws.specs.numbering.Renumbering.{SameNumbersIn, Numbering, SameButNumbers, TellsApart, frame_renumbered, futures_renumbered, next_renumbered}
 
 here_in : {X : Type 0} (x : X) (xs : List X) → Contains (x ∷ xs) x

@@ -3,8 +3,8 @@ use Rattle.std.proofs.Common.{◌≡◌, ◌≢◌, ◌<◌, ◌⊎◌, inl, inr
 use Rattle.std.specs.Prelude.{◌==◌, ◌||◌, map, slice_get, slice_set, if◌then◌else◌}
 use Rattle.std.specs.List.{list_any}
 use Rattle.std.proofs.lemmas.Bool.{eq-eqb, eqb-true}
-use Rattle.seg_exec.specs.Access.{value_in}
-use Rattle.seg_exec.specs.Giving.{without}
+use Rattle.seg_meaning.specs.Access.{value_in}
+use Rattle.seg_meaning.specs.Giving.{without}
 use Rattle.determinism_laws.specs.numbering.Renumbering.{Numbering}
 use Rattle.determinism_laws.specs.numbering.Played.{IsInjective}
 

@@ -3,7 +3,7 @@ use Rattle.std.proofs.Common.{◌≡◌, ◌<◌, ◌≤◌, ◌⊎◌, inl, inr
 use Rattle.std.specs.Prelude.{◌==◌, ◌||◌, if◌then◌else◌}
 use Rattle.std.specs.List.{list_any}
 use Rattle.std.proofs.lemmas.Bool.{eq-eqb, eqb-true}
-use Rattle.seg_exec.specs.Giving.{without}
+use Rattle.seg_meaning.specs.Giving.{without}
 use Rattle.determinism_laws.specs.numbering.Numberings.{AllBelow, AllDiffer, numbering_of}
 use Rattle.determinism_laws.specs.numbering.Played.{IsInjective}
 use Rattle.determinism_laws.proofs.numbering.KeptValues.{left_was_there}

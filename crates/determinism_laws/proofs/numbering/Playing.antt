@@ -7,24 +7,24 @@ use Rattle.effect_sets.specs.declared.effects.Summary.{Summary}
 use Rattle.twe_base.specs.Limits.{Bounds}
 use Rattle.twe_program.specs.Program.{Program}
 use Rattle.twe_program.specs.WellFormed.{IsWellFormed}
-use Rattle.seg_exec.specs.declared.frame.Frame.{Frame}
-use Rattle.seg_exec.specs.declared.frame.Next.{Next}
-use Rattle.seg_exec.specs.declared.frame.Next.TheVariants.{Go, Get, Join, Closing, Ended}
-use Rattle.seg_exec.specs.declared.stop.Stop.{Stop}
-use Rattle.seg_exec.specs.declared.stop.Stop.TheVariants.{Make, Joins, Done}
-use Rattle.seg_exec.specs.Access.{after}
-use Rattle.seg_exec.specs.Entry.{entry_frame}
-use Rattle.seg_exec.specs.Giving.{given, given_by}
-use Rattle.seg_exec.specs.Segment.{segment}
-use Rattle.twe_machine.specs.segment_laws.Ready.{IsReady}
-use Rattle.twe_machine.proofs.segment_laws.BeingReady.{entry_ready, ready_given, ready_later, ready_made, ready_same}
-use Rattle.twe_machine.proofs.segment_laws.Following.{makes_follow}
-use Rattle.twe_machine.proofs.segment_laws.SegmentKept.{segment_keeps}
-use Rattle.twe_machine.specs.Moves.{frame_without_prints, making_frame}
-use Rattle.seq_elide.specs.declared.progress.Progress.{Progress}
-use Rattle.seq_elide.specs.Building.{RunsTo, next_frame, next_progress}
-use Rattle.seq_elide.specs.Elision.{first_frame, frame_at_start, is_child, kept_value, progress_at_start, with_task, with_value}
-use Rattle.seq_elide.proofs.Building.{ends_at_done, goes_on_at_join, goes_on_at_spawn, runs_as_defined}
+use Rattle.seg_meaning.specs.declared.frame.Frame.{Frame}
+use Rattle.seg_meaning.specs.declared.frame.Next.{Next}
+use Rattle.seg_meaning.specs.declared.frame.Next.TheVariants.{Go, Get, Join, Closing, Ended}
+use Rattle.seg_meaning.specs.declared.stop.Stop.{Stop}
+use Rattle.seg_meaning.specs.declared.stop.Stop.TheVariants.{Make, Joins, Done}
+use Rattle.seg_meaning.specs.Access.{after}
+use Rattle.seg_meaning.specs.Entry.{entry_frame}
+use Rattle.seg_meaning.specs.Giving.{given, given_by}
+use Rattle.seg_meaning.specs.Segment.{segment}
+use Rattle.machine_state.specs.segment_laws.Ready.{IsReady}
+use Rattle.machine_state.proofs.segment_laws.BeingReady.{entry_ready, ready_given, ready_later, ready_made, ready_same}
+use Rattle.machine_state.proofs.segment_laws.Following.{makes_follow}
+use Rattle.machine_state.proofs.segment_laws.SegmentKept.{segment_keeps}
+use Rattle.machine_state.specs.Moves.{frame_without_prints, making_frame}
+use Rattle.determinism_laws.specs.declared.elision.progress.Progress.{Progress}
+use Rattle.determinism_laws.specs.elision.Building.{RunsTo, next_frame, next_progress}
+use Rattle.determinism_laws.specs.elision.Elision.{first_frame, frame_at_start, is_child, kept_value, progress_at_start, with_task, with_value}
+use Rattle.determinism_laws.proofs.elision.Building.{ends_at_done, goes_on_at_join, goes_on_at_spawn, runs_as_defined}
 use Rattle.determinism_laws.specs.numbering.Renumbering.{Numbering, SameButNumbers, frame_renumbered}
 use Rattle.determinism_laws.specs.numbering.SameAccesses.{DoesTheSame}
 use Rattle.determinism_laws.specs.numbering.Played.{ChildrenAreKept, ElidesTo, FindTheSame, IsInjective, Played, ends, joins, spawns, PlayedStep, cells_after, played_prints, step_accesses, step_frame, step_prints}

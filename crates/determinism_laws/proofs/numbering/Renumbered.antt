@@ -2,15 +2,15 @@
 use Rattle.std.proofs.Common.{◌≡◌, ℕ, zero, suc, ℤ, Bool, true, false, IsTrue, List, [], ◌∷◌, Option, None, Some, refl, ap, ◌∙◌}
 use Rattle.std.specs.Prelude.{pos, map, option_map, slice_get}
 use Rattle.twe_program.specs.Program.{Program}
-use Rattle.seg_exec.specs.declared.frame.OpenBody.{OpenBody}
-use Rattle.seg_exec.specs.declared.frame.Frame.{Frame}
-use Rattle.seg_exec.specs.declared.frame.Next.{Next}
-use Rattle.seg_exec.specs.declared.frame.Position.{Position}
-use Rattle.seg_exec.specs.declared.operation.Operation.TheVariants as operations
-use Rattle.seg_exec.specs.declared.stop.Stop.{Stop}
-use Rattle.seg_exec.specs.Segment.{Stopped, at_end, closing, closing_stop, flow_of, open_body, segment, stopped_by, task_of, waiting, waiting_stop, with_store}
-use Rattle.seg_exec.specs.Store.{Store, Flow, goes, returns, fails, stops}
-use Rattle.twe_machine.specs.segment_laws.Ready.{IsReady, is_future_set, stands_for_one}
+use Rattle.seg_meaning.specs.declared.frame.OpenBody.{OpenBody}
+use Rattle.seg_meaning.specs.declared.frame.Frame.{Frame}
+use Rattle.seg_meaning.specs.declared.frame.Next.{Next}
+use Rattle.seg_meaning.specs.declared.frame.Position.{Position}
+use Rattle.seg_meaning.specs.declared.operation.Operation.TheVariants as operations
+use Rattle.seg_meaning.specs.declared.stop.Stop.{Stop}
+use Rattle.seg_meaning.specs.Segment.{Stopped, at_end, closing, closing_stop, flow_of, open_body, segment, stopped_by, task_of, waiting, waiting_stop, with_store}
+use Rattle.seg_meaning.specs.Store.{Store, Flow, goes, returns, fails, stops}
+use Rattle.machine_state.specs.segment_laws.Ready.{IsReady, is_future_set, stands_for_one}
 use Rattle.determinism_laws.specs.numbering.Renumbering.{Numbering, SameButNumbers, frame_renumbered, futures_renumbered, next_renumbered, stop_renumbered, stopped_renumbered}
 use Rattle.determinism_laws.proofs.numbering.WaitsStand.{WaitStands, wait_stands}
 

@@ -4,19 +4,19 @@ use Rattle.std.specs.Prelude.{slice_get}
 use Rattle.twe_program.specs.Program.{Program}
 use Rattle.twe_program.specs.Statement.{Wait, Statements, no_more, statement}
 use Rattle.twe_program.specs.Futures.{AllWaitsFollow}
-use Rattle.seg_exec.specs.declared.frame.OpenBody.{OpenBody}
-use Rattle.seg_exec.specs.declared.frame.Frame.{Frame}
-use Rattle.seg_exec.specs.declared.frame.Position.{Position}
-use Rattle.seg_exec.specs.declared.operation.Operation.TheVariants as operations
-use Rattle.seg_exec.specs.Meaning.{body_of}
-use Rattle.seg_exec.specs.Segment.{flow_of, store_at}
-use Rattle.seg_exec.specs.Store.{Flow, goes, returns, fails, stops}
-use Rattle.twe_machine.specs.segment_laws.Left.{body_left, left_in, left_of}
-use Rattle.twe_machine.specs.segment_laws.Ready.{IsReady, is_future_set}
-use Rattle.twe_machine.proofs.segment_laws.Quiet.{leads_nowhere}
-use Rattle.twe_machine.proofs.segment_laws.Leading.{FlowLeads}
-use Rattle.twe_machine.proofs.segment_laws.LeftLeading.{body_leads}
-use Rattle.twe_machine.proofs.segment_laws.Waits.{quietly_waits}
+use Rattle.seg_meaning.specs.declared.frame.OpenBody.{OpenBody}
+use Rattle.seg_meaning.specs.declared.frame.Frame.{Frame}
+use Rattle.seg_meaning.specs.declared.frame.Position.{Position}
+use Rattle.seg_meaning.specs.declared.operation.Operation.TheVariants as operations
+use Rattle.seg_meaning.specs.Meaning.{body_of}
+use Rattle.seg_meaning.specs.Segment.{flow_of, store_at}
+use Rattle.seg_meaning.specs.Store.{Flow, goes, returns, fails, stops}
+use Rattle.machine_state.specs.segment_laws.Left.{body_left, left_in, left_of}
+use Rattle.machine_state.specs.segment_laws.Ready.{IsReady, is_future_set}
+use Rattle.machine_state.proofs.segment_laws.Quiet.{leads_nowhere}
+use Rattle.machine_state.proofs.segment_laws.Leading.{FlowLeads}
+use Rattle.machine_state.proofs.segment_laws.LeftLeading.{body_leads}
+use Rattle.machine_state.proofs.segment_laws.Waits.{quietly_waits}
 
 -- the future of a wait at which the flow stops stands for a task
 abbrev pub WaitStands : List (Option ℕ) → Flow → Type 0

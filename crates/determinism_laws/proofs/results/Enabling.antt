@@ -10,16 +10,16 @@ use Rattle.twe_base.specs.Limits.{Bounds}
 use Rattle.twe_program.specs.Program.{Program}
 use Rattle.twe_program.specs.WellFormed.{IsWellFormed}
 use Rattle.isolation_laws.specs.soundness.KeepsEffects.{KeepsEffects}
-use Rattle.twe_machine.specs.declared.state.State.{State}
-use Rattle.twe_machine.specs.declared.state.TaskRow.{TaskRow}
-use Rattle.twe_machine.specs.declared.state.TaskStatus.{TaskStatus}
-use Rattle.twe_machine.specs.declared.state.TaskStatus.TheVariants.{Made, Enabled, Done, Faulted}
-use Rattle.twe_machine.specs.Legal.{MayTake}
-use Rattle.twe_machine.specs.Moves.{admitted, admitted_row, parent_of, result_by_kind, status_at_start}
-use Rattle.twe_machine.specs.Rows.{HasStatus, IsRow}
-use Rattle.twe_machine.specs.Runs.{Legal, state_after}
-use Rattle.twe_machine.proofs.tasks.OtherRows.{row_after}
-use Rattle.twe_machine.proofs.lists.Places.{below_there, got_one, set_same}
+use Rattle.machine_state.specs.declared.state.State.{State}
+use Rattle.machine_state.specs.declared.state.TaskRow.{TaskRow}
+use Rattle.machine_state.specs.declared.state.TaskStatus.{TaskStatus}
+use Rattle.machine_state.specs.declared.state.TaskStatus.TheVariants.{Made, Enabled, Done, Faulted}
+use Rattle.machine_state.specs.Legal.{MayTake}
+use Rattle.machine_state.specs.Moves.{admitted, admitted_row, parent_of, result_by_kind, status_at_start}
+use Rattle.machine_state.specs.Rows.{HasStatus, IsRow}
+use Rattle.machine_state.specs.Runs.{Legal, state_after}
+use Rattle.machine_state.proofs.tasks.OtherRows.{row_after}
+use Rattle.machine_state.proofs.lists.Places.{below_there, got_one, set_same}
 use Rattle.determinism_laws.specs.Segments.{IsSegmentOf, Spawns, state_before}
 use Rattle.determinism_laws.proofs.JournalPlaces.{later_end, stands_at, taken_at}
 use Rattle.determinism_laws.proofs.NewTasks.{move_row}

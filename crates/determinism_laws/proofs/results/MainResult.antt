@@ -8,13 +8,13 @@ use Rattle.twe_base.specs.Limits.{Bounds}
 use Rattle.twe_program.specs.Program.{Program}
 use Rattle.twe_program.specs.WellFormed.{IsWellFormed}
 use Rattle.isolation_laws.specs.soundness.KeepsEffects.{KeepsEffects}
-use Rattle.twe_machine.specs.declared.state.State.{State}
-use Rattle.twe_machine.specs.declared.state.TaskRow.{TaskRow}
-use Rattle.twe_machine.specs.declared.state.TaskStatus.TheVariants.{Done}
-use Rattle.twe_machine.specs.Moves.{initial_values}
-use Rattle.twe_machine.specs.Rows.{IsRow}
-use Rattle.twe_machine.specs.Runs.{AllTasksDone, Legal, state_after}
-use Rattle.twe_machine.proofs.lists.Places.{below_there, got_one}
+use Rattle.machine_state.specs.declared.state.State.{State}
+use Rattle.machine_state.specs.declared.state.TaskRow.{TaskRow}
+use Rattle.machine_state.specs.declared.state.TaskStatus.TheVariants.{Done}
+use Rattle.machine_state.specs.Moves.{initial_values}
+use Rattle.machine_state.specs.Rows.{IsRow}
+use Rattle.machine_state.specs.Runs.{AllTasksDone, Legal, state_after}
+use Rattle.machine_state.proofs.lists.Places.{below_there, got_one}
 use Rattle.determinism_laws.specs.Orders.{SegmentAccesses, after_all}
 use Rattle.determinism_laws.specs.Segments.{IsSegmentOf, Spawns, state_before}
 use Rattle.determinism_laws.proofs.ExecutedOrder.{all_listed}
@@ -23,9 +23,9 @@ use Rattle.determinism_laws.proofs.RankExecution.{orders_agree}
 use Rattle.determinism_laws.proofs.RankLaws.{final_stands}
 use Rattle.determinism_laws.proofs.SameValues.{same_cells}
 use Rattle.determinism_laws.proofs.Spawners.{spawner}
-use Rattle.seq_elide.specs.declared.progress.Progress.{Progress}
-use Rattle.seq_elide.specs.Elision.{elided}
-use Rattle.seq_elide.specs.Elision as elision
+use Rattle.determinism_laws.specs.declared.elision.progress.Progress.{Progress}
+use Rattle.determinism_laws.specs.elision.Elision.{elided}
+use Rattle.determinism_laws.specs.elision.Elision as elision
 use Rattle.determinism_laws.specs.numbering.Played.{ElidesTo}
 use Rattle.determinism_laws.specs.theorem.Steps.{printed_by, tasks_after}
 use Rattle.determinism_laws.proofs.theorem.Elided.{IsElidedBySteps, elided_by_steps, elided_whole}

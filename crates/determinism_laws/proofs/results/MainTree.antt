@@ -9,12 +9,12 @@ use Rattle.wait_graph.specs.Chain.{none, more}
 use Rattle.twe_program.specs.Program.{Program}
 use Rattle.twe_program.specs.WellFormed.{IsWellFormed}
 use Rattle.isolation_laws.specs.soundness.KeepsEffects.{KeepsEffects}
-use Rattle.twe_machine.specs.declared.state.State.{State}
-use Rattle.twe_machine.specs.declared.state.TaskRow.{TaskRow}
-use Rattle.twe_machine.specs.Moves.{parent_of}
-use Rattle.twe_machine.specs.Rows.{IsRow}
-use Rattle.twe_machine.specs.Runs.{Legal, state_after}
-use Rattle.twe_machine.proofs.lists.Places.{below_there, got_one}
+use Rattle.machine_state.specs.declared.state.State.{State}
+use Rattle.machine_state.specs.declared.state.TaskRow.{TaskRow}
+use Rattle.machine_state.specs.Moves.{parent_of}
+use Rattle.machine_state.specs.Rows.{IsRow}
+use Rattle.machine_state.specs.Runs.{Legal, state_after}
+use Rattle.machine_state.proofs.lists.Places.{below_there, got_one}
 use Rattle.determinism_laws.specs.Deterministic.{IsDeterministic}
 use Rattle.determinism_laws.specs.Ranks.{BelowTask, HasParent, IsBelow}
 use Rattle.determinism_laws.specs.Segments.{IsSegmentOf, state_before}

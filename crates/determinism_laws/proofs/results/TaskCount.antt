@@ -10,9 +10,9 @@ use Rattle.seg_journal.specs.declared.journal.End.TheVariants as entry_ends
 use Rattle.seg_journal.specs.declared.journal.Entry.{Entry}
 use Rattle.twe_base.specs.Limits.{Bounds}
 use Rattle.twe_program.specs.Program.{Program}
-use Rattle.seg_exec.specs.Giving.{without}
-use Rattle.twe_machine.specs.Runs.{state_after}
-use Rattle.twe_machine.proofs.lists.Places.{got_one}
+use Rattle.seg_meaning.specs.Giving.{without}
+use Rattle.machine_state.specs.Runs.{state_after}
+use Rattle.machine_state.proofs.lists.Places.{got_one}
 use Rattle.determinism_laws.specs.Orders.{SegmentAccesses}
 use Rattle.determinism_laws.specs.Segments.{Spawns}
 use Rattle.determinism_laws.specs.numbering.Numberings.{AllBelow, AllDiffer}

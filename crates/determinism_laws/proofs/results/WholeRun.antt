@@ -8,15 +8,15 @@ use Rattle.seg_journal.specs.declared.moves.Kind.TheVariants.{Admit, Run}
 use Rattle.twe_base.specs.Limits.{Bounds}
 use Rattle.twe_program.specs.Program.{Program}
 use Rattle.twe_program.specs.WellFormed.{IsWellFormed}
-use Rattle.seg_exec.specs.Access.{after, printed}
-use Rattle.seg_exec.proofs.Determined.{segment_agrees}
-use Rattle.twe_machine.specs.declared.state.State.{State}
-use Rattle.twe_machine.specs.declared.state.TaskRow.{TaskRow}
-use Rattle.twe_machine.specs.Changes.{ResultsAfter, next_segment}
-use Rattle.twe_machine.specs.Moves.{awaited_value, move_result, ready_frame}
-use Rattle.twe_machine.specs.Rows.{IsRow, row_awaited}
-use Rattle.twe_machine.specs.Runs.{Legal, state_after}
-use Rattle.twe_machine.proofs.tasks.LeftAlone.{moves_leave_alone}
+use Rattle.seg_meaning.specs.Access.{after, printed}
+use Rattle.seg_meaning.proofs.Determined.{segment_agrees}
+use Rattle.machine_state.specs.declared.state.State.{State}
+use Rattle.machine_state.specs.declared.state.TaskRow.{TaskRow}
+use Rattle.machine_state.specs.Changes.{ResultsAfter, next_segment}
+use Rattle.machine_state.specs.Moves.{awaited_value, move_result, ready_frame}
+use Rattle.machine_state.specs.Rows.{IsRow, row_awaited}
+use Rattle.machine_state.specs.Runs.{Legal, state_after}
+use Rattle.machine_state.proofs.tasks.LeftAlone.{moves_leave_alone}
 use Rattle.determinism_laws.specs.Orders.{SegmentAccesses, after_all}
 use Rattle.determinism_laws.specs.Segments.{IsSegmentOf, state_before}
 use Rattle.determinism_laws.specs.Sequential.{AreSegmentsBelow}

@@ -6,24 +6,24 @@ use Rattle.seg_journal.specs.declared.journal.Entry.{Entry}
 use Rattle.twe_base.specs.Limits.{Bounds}
 use Rattle.twe_program.specs.Program.{Program}
 use Rattle.twe_program.specs.WellFormed.{IsWellFormed}
-use Rattle.seg_exec.specs.Entry.{entry_frame}
+use Rattle.seg_meaning.specs.Entry.{entry_frame}
 use Rattle.isolation_laws.specs.soundness.KeepsEffects.{KeepsEffects}
-use Rattle.twe_machine.specs.declared.state.TaskRow.{TaskRow}
-use Rattle.twe_machine.specs.declared.state.TaskStatus.TheVariants.{Done}
-use Rattle.twe_machine.specs.Moves.{value_of}
-use Rattle.twe_machine.specs.Rows.{HasStatus, IsRow}
-use Rattle.twe_machine.specs.Runs.{Legal, state_after}
+use Rattle.machine_state.specs.declared.state.TaskRow.{TaskRow}
+use Rattle.machine_state.specs.declared.state.TaskStatus.TheVariants.{Done}
+use Rattle.machine_state.specs.Moves.{value_of}
+use Rattle.machine_state.specs.Rows.{HasStatus, IsRow}
+use Rattle.machine_state.specs.Runs.{Legal, state_after}
 use Rattle.determinism_laws.specs.Deterministic.{IsDeterministic}
 use Rattle.determinism_laws.specs.Execution.{IsExecutedAlike, IsNextSegment}
 use Rattle.determinism_laws.specs.Frames.{StartsFrom}
 use Rattle.determinism_laws.specs.Sequential.{IsEnabledThroughout}
 use Rattle.determinism_laws.proofs.DoneTasks.{done_tasks_alike}
 use Rattle.determinism_laws.specs.Segments.{state_before}
-use Rattle.seq_elide.specs.Elision.{first_frame}
+use Rattle.determinism_laws.specs.elision.Elision.{first_frame}
 use Rattle.determinism_laws.specs.numbering.Played.{ElidesTo, IsInjective, Played}
 use Rattle.determinism_laws.specs.numbering.Renumbering.{Numbering}
 use Rattle.determinism_laws.proofs.numbering.Playing.{played_elides}
-use Rattle.determinism_laws.specs.theorem.Steps.{StepsAreNumbered, DeterministicTasksElideAsRun, DoneTasksAreElided, DoneTasksElideAsRun, ElidesAsRun, IsElidedAsRun, IsPlayed, final_value, tasks_after}
+use Rattle.determinism_laws.specs.theorem.Steps.{StepsAreNumbered, DoneTasksElideByTheirDeclarations, DoneTasksElideInEachNumbering, DoneTasksElideAsRun, ElidesAsRun, IsElidedAsRun, IsPlayed, final_value, tasks_after}
 use Rattle.determinism_laws.proofs.theorem.FirstSegments.{starts_first}
 use Rattle.determinism_laws.proofs.theorem.Finds.{steps_find, steps_leave}
 use Rattle.determinism_laws.specs.numbering.Numberings.{numbering_of}
@@ -108,7 +108,7 @@ module _ (p : Program) (wf : IsWellFormed p) (keeps : KeepsEffects p) (lim : Bou
   whole_as_run : (upto : ℕ) × ElidesAsRun p lim journal t row from count task args upto
   whole_as_run = let by = elided_by_steps in (tasks_after 1 by.played.children, as_run by (tasks_after 1 by.played.children) (elided_whole by))
 
-pub done_tasks_elided : (p : Program) → IsWellFormed p → KeepsEffects p → (lim : Bounds) (journal : List Entry) → Legal p lim journal → DoneTasksAreElided p lim journal
+pub done_tasks_elided : (p : Program) → IsWellFormed p → KeepsEffects p → (lim : Bounds) (journal : List Entry) → Legal p lim journal → DoneTasksElideInEachNumbering p lim journal
 done_tasks_elided p wf keeps lim journal legal t first from count row task args there done flag some is_first early enabled ended starts =
     elided_as_run p wf keeps lim journal legal t first from count row task args there done flag some is_first early enabled ended starts
 
@@ -116,7 +116,7 @@ pub done_tasks_as_run : (p : Program) → IsWellFormed p → KeepsEffects p → 
 done_tasks_as_run p wf keeps lim journal legal t first from count row task args there done flag some is_first early enabled ended starts =
     whole_as_run p wf keeps lim journal legal t first from count row task args there done flag some is_first early enabled ended starts
 
-pub deterministic_tasks_as_run : (p : Program) → IsWellFormed p → KeepsEffects p → (lim : Bounds) (journal : List Entry) → Legal p lim journal → DeterministicTasksElideAsRun p lim journal
+pub deterministic_tasks_as_run : (p : Program) → IsWellFormed p → KeepsEffects p → (lim : Bounds) (journal : List Entry) → Legal p lim journal → DoneTasksElideByTheirDeclarations p lim journal
 deterministic_tasks_as_run p wf keeps lim journal legal t first from count row there done flag some is_first early enabled ended =
     done_tasks_as_run p wf keeps lim journal legal t first from count row row.decl row.args there done flag some is_first early enabled ended
     (starts_first p wf keeps lim journal legal t first is_first row there)

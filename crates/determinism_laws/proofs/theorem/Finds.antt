@@ -5,8 +5,8 @@ use Rattle.std.proofs.lemmas.List.{append_assoc}
 use Rattle.seg_journal.specs.declared.journal.Entry.{Entry}
 use Rattle.twe_base.specs.Limits.{Bounds}
 use Rattle.twe_program.specs.Program.{Program}
-use Rattle.seg_exec.specs.Access.{Access, Agrees, after}
-use Rattle.seg_exec.proofs.Determined.{segment_agrees}
+use Rattle.seg_meaning.specs.Access.{Access, Agrees, after}
+use Rattle.seg_meaning.proofs.Determined.{segment_agrees}
 use Rattle.determinism_laws.specs.Orders.{SegmentAccesses, accesses_cell, after_all}
 use Rattle.determinism_laws.specs.Segments.{state_before}
 use Rattle.determinism_laws.specs.numbering.Played.{FindTheSame, PlayedStep, cells_after, step_accesses}

@@ -8,21 +8,21 @@ use Rattle.seg_journal.specs.declared.moves.Kind.TheVariants.{Admit, Run}
 use Rattle.twe_base.specs.Limits.{Bounds}
 use Rattle.twe_program.specs.Program.{Program}
 use Rattle.twe_program.specs.WellFormed.{IsWellFormed}
-use Rattle.seg_exec.specs.declared.frame.Frame.{Frame}
-use Rattle.seg_exec.specs.declared.frame.Next.{Next}
-use Rattle.seg_exec.specs.declared.frame.Next.TheVariants.{Go}
-use Rattle.seg_exec.specs.Entry.{entry_frame}
-use Rattle.seg_exec.specs.Giving.{given_by}
+use Rattle.seg_meaning.specs.declared.frame.Frame.{Frame}
+use Rattle.seg_meaning.specs.declared.frame.Next.{Next}
+use Rattle.seg_meaning.specs.declared.frame.Next.TheVariants.{Go}
+use Rattle.seg_meaning.specs.Entry.{entry_frame}
+use Rattle.seg_meaning.specs.Giving.{given_by}
 use Rattle.isolation_laws.specs.soundness.KeepsEffects.{KeepsEffects}
-use Rattle.twe_machine.specs.declared.state.State.{State}
-use Rattle.twe_machine.specs.declared.state.TaskRow.{TaskRow}
-use Rattle.twe_machine.specs.declared.state.TaskStatus.TheVariants.{Made}
-use Rattle.twe_machine.specs.Legal.{MayTake}
-use Rattle.twe_machine.specs.Moves.{awaited_value, joined_row, ready_frame, result_by_kind}
-use Rattle.twe_machine.specs.Rows.{IsRow, row_awaited}
-use Rattle.twe_machine.specs.Runs.{Legal, state_after}
-use Rattle.twe_machine.proofs.tasks.OtherRows.{row_after}
-use Rattle.twe_machine.proofs.lists.Places.{below_there, got_one}
+use Rattle.machine_state.specs.declared.state.State.{State}
+use Rattle.machine_state.specs.declared.state.TaskRow.{TaskRow}
+use Rattle.machine_state.specs.declared.state.TaskStatus.TheVariants.{Made}
+use Rattle.machine_state.specs.Legal.{MayTake}
+use Rattle.machine_state.specs.Moves.{awaited_value, joined_row, ready_frame, result_by_kind}
+use Rattle.machine_state.specs.Rows.{IsRow, row_awaited}
+use Rattle.machine_state.specs.Runs.{Legal, state_after}
+use Rattle.machine_state.proofs.tasks.OtherRows.{row_after}
+use Rattle.machine_state.proofs.lists.Places.{below_there, got_one}
 use Rattle.determinism_laws.specs.Execution.{IsNextSegment}
 use Rattle.determinism_laws.specs.Frames.{StartsFrom}
 use Rattle.determinism_laws.specs.Segments.{state_before}
@@ -30,7 +30,7 @@ use Rattle.determinism_laws.proofs.JournalPlaces.{later_at, later_end, stands_at
 use Rattle.determinism_laws.proofs.NewTasks.{move_frame}
 use Rattle.determinism_laws.proofs.OwnCells.{take_past}
 use Rattle.determinism_laws.proofs.Trees.{runner}
-use Rattle.seq_elide.specs.Elision.{first_frame}
+use Rattle.determinism_laws.specs.elision.Elision.{first_frame}
 use Rattle.determinism_laws.proofs.theorem.NewArguments.{new_fresh}
 
 module _ (p : Program) (wf : IsWellFormed p) (keeps : KeepsEffects p) (lim : Bounds) (journal : List Entry) (legal : Legal p lim journal)

@@ -12,20 +12,20 @@ use Rattle.seg_journal.specs.declared.moves.Kind.{Kind}
 use Rattle.seg_journal.specs.declared.moves.Kind.TheVariants.{Admit, Run}
 use Rattle.wait_graph.specs.Link.{link_of}
 use Rattle.twe_program.specs.Program.{Program}
-use Rattle.seg_exec.specs.declared.frame.Frame.{Frame}
-use Rattle.seg_exec.specs.declared.stop.Stop.{Stop}
-use Rattle.seg_exec.specs.declared.stop.Stop.TheVariants as stops
-use Rattle.seg_exec.specs.Entry.{entry_frame}
-use Rattle.twe_machine.proofs.segment_laws.Following.{makes_follow}
-use Rattle.twe_machine.specs.declared.state.State.{State}
-use Rattle.twe_machine.specs.declared.state.TaskRow.{TaskRow}
-use Rattle.twe_machine.specs.Moves.{admitted, admitted_row, done_row, faulted_row, going_row, joined_child, making_frame, new_row, parent_of, ran, ready_frame, result_by_kind, state_after_asking, state_after_fault, state_after_join, state_after_make, stop_result, stopped_frame}
-use Rattle.twe_machine.specs.Rows.{IsRow}
-use Rattle.twe_machine.proofs.weight.JoinedWeight.{length_joined}
-use Rattle.twe_machine.proofs.lists.Places.{got_one, put_cases}
-use Rattle.twe_machine.proofs.standing.Standing.{Stands}
+use Rattle.seg_meaning.specs.declared.frame.Frame.{Frame}
+use Rattle.seg_meaning.specs.declared.stop.Stop.{Stop}
+use Rattle.seg_meaning.specs.declared.stop.Stop.TheVariants as stops
+use Rattle.seg_meaning.specs.Entry.{entry_frame}
+use Rattle.machine_state.proofs.segment_laws.Following.{makes_follow}
+use Rattle.machine_state.specs.declared.state.State.{State}
+use Rattle.machine_state.specs.declared.state.TaskRow.{TaskRow}
+use Rattle.machine_state.specs.Moves.{admitted, admitted_row, done_row, faulted_row, going_row, joined_child, making_frame, new_row, parent_of, ran, ready_frame, result_by_kind, state_after_asking, state_after_fault, state_after_join, state_after_make, stop_result, stopped_frame}
+use Rattle.machine_state.specs.Rows.{IsRow}
+use Rattle.machine_state.proofs.weight.JoinedWeight.{length_joined}
+use Rattle.machine_state.proofs.lists.Places.{got_one, put_cases}
+use Rattle.machine_state.proofs.standing.Standing.{Stands}
 use Rattle.determinism_laws.proofs.NewTasks.{left_by, move_row}
-use Rattle.seq_elide.specs.Elision.{first_frame}
+use Rattle.determinism_laws.specs.elision.Elision.{first_frame}
 
 -- the stop is a make with the arguments of the row
 abbrev ArgsOf : Stop → TaskRow → Type 0

@@ -11,12 +11,12 @@ use Rattle.twe_program.specs.Program.{Program}
 use Rattle.twe_program.specs.WellFormed.{IsWellFormed}
 use Rattle.effect_check.proofs.Members.{IsIn, in-contains}
 use Rattle.isolation_laws.specs.soundness.KeepsEffects.{KeepsEffects}
-use Rattle.twe_machine.specs.declared.state.State.{State}
-use Rattle.twe_machine.specs.declared.state.TaskRow.{TaskRow}
-use Rattle.twe_machine.specs.Changes.{next_segment}
-use Rattle.twe_machine.specs.Rows.{IsRow}
-use Rattle.twe_machine.specs.Runs.{Legal, state_after}
-use Rattle.twe_machine.proofs.lists.Places.{got_one}
+use Rattle.machine_state.specs.declared.state.State.{State}
+use Rattle.machine_state.specs.declared.state.TaskRow.{TaskRow}
+use Rattle.machine_state.specs.Changes.{next_segment}
+use Rattle.machine_state.specs.Rows.{IsRow}
+use Rattle.machine_state.specs.Runs.{Legal, state_after}
+use Rattle.machine_state.proofs.lists.Places.{got_one}
 use Rattle.determinism_laws.specs.Execution.{Execution, ends, joins, spawns}
 use Rattle.determinism_laws.specs.Orders.{EachStandsOnce, SegmentAccesses}
 use Rattle.determinism_laws.specs.Segments.{IsSegmentOf, Spawns, state_before}

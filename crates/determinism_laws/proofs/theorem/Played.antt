@@ -11,27 +11,27 @@ use Rattle.seg_journal.specs.declared.moves.Kind.{Kind}
 use Rattle.seg_journal.specs.declared.moves.Kind.TheVariants.{Run}
 use Rattle.twe_program.specs.Program.{Program}
 use Rattle.twe_program.specs.WellFormed.{IsWellFormed}
-use Rattle.seg_exec.specs.declared.frame.Frame.{Frame}
-use Rattle.seg_exec.specs.declared.frame.Next.{Next}
-use Rattle.seg_exec.specs.declared.frame.Next.TheVariants.{Go, Get, Join, Closing, Ended}
-use Rattle.seg_exec.specs.declared.stop.Stop.{Stop}
-use Rattle.seg_exec.specs.declared.stop.Stop.TheVariants as stops
-use Rattle.seg_exec.specs.Giving.{given, given_by}
-use Rattle.seg_exec.specs.Segment.{segment}
-use Rattle.twe_machine.specs.segment_laws.Keeps.{NextAfter}
-use Rattle.twe_machine.proofs.segment_laws.SegmentKept.{segment_keeps}
+use Rattle.seg_meaning.specs.declared.frame.Frame.{Frame}
+use Rattle.seg_meaning.specs.declared.frame.Next.{Next}
+use Rattle.seg_meaning.specs.declared.frame.Next.TheVariants.{Go, Get, Join, Closing, Ended}
+use Rattle.seg_meaning.specs.declared.stop.Stop.{Stop}
+use Rattle.seg_meaning.specs.declared.stop.Stop.TheVariants as stops
+use Rattle.seg_meaning.specs.Giving.{given, given_by}
+use Rattle.seg_meaning.specs.Segment.{segment}
+use Rattle.machine_state.specs.segment_laws.Keeps.{NextAfter}
+use Rattle.machine_state.proofs.segment_laws.SegmentKept.{segment_keeps}
 use Rattle.effect_check.proofs.Members.{IsIn}
 use Rattle.isolation_laws.specs.soundness.KeepsEffects.{KeepsEffects}
-use Rattle.twe_machine.specs.declared.state.State.{State}
-use Rattle.twe_machine.specs.declared.state.TaskRow.{TaskRow}
-use Rattle.twe_machine.specs.declared.state.TaskStatus.TheVariants.{Done}
-use Rattle.twe_machine.specs.Changes.{IsDoneWith, next_segment}
-use Rattle.twe_machine.specs.Legal.{MayTake}
-use Rattle.twe_machine.specs.Moves.{awaited_value, frame_without_prints, making_frame, ready_frame, result_by_kind, value_of}
-use Rattle.twe_machine.specs.Rows.{IsRow, row_awaited}
-use Rattle.twe_machine.specs.Runs.{Legal, state_after}
-use Rattle.twe_machine.proofs.tasks.DoneFirst.{children_joined}
-use Rattle.twe_machine.proofs.lists.Places.{got_one}
+use Rattle.machine_state.specs.declared.state.State.{State}
+use Rattle.machine_state.specs.declared.state.TaskRow.{TaskRow}
+use Rattle.machine_state.specs.declared.state.TaskStatus.TheVariants.{Done}
+use Rattle.machine_state.specs.Changes.{IsDoneWith, next_segment}
+use Rattle.machine_state.specs.Legal.{MayTake}
+use Rattle.machine_state.specs.Moves.{awaited_value, frame_without_prints, making_frame, ready_frame, result_by_kind, value_of}
+use Rattle.machine_state.specs.Rows.{IsRow, row_awaited}
+use Rattle.machine_state.specs.Runs.{Legal, state_after}
+use Rattle.machine_state.proofs.tasks.DoneFirst.{children_joined}
+use Rattle.machine_state.proofs.lists.Places.{got_one}
 use Rattle.determinism_laws.specs.Deterministic.{IsDeterministic}
 use Rattle.determinism_laws.specs.Execution.{Execution, IsNextSegment, ends, joins, spawns}
 use Rattle.determinism_laws.specs.Frames.{StartsFrom}
@@ -47,7 +47,7 @@ use Rattle.determinism_laws.proofs.JournalPlaces.{later_at, later_end, reached_a
 use Rattle.determinism_laws.proofs.NewTasks.{FrameAfter, left_by, move_frame}
 use Rattle.determinism_laws.proofs.RankLaws.{final_reached, final_stands}
 use Rattle.determinism_laws.proofs.Trees.{kept_at, one_segment}
-use Rattle.seq_elide.specs.Elision.{first_frame, is_child}
+use Rattle.determinism_laws.specs.elision.Elision.{first_frame, is_child}
 use Rattle.determinism_laws.specs.numbering.Played.{Played, PlayedStep, step_accesses, step_frame}
 use Rattle.determinism_laws.specs.numbering.Played as play
 use Rattle.determinism_laws.specs.numbering.Renumbering.{Numbering}

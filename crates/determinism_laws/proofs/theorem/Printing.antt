@@ -5,10 +5,10 @@ use Rattle.std.specs.List.{list_any}
 use Rattle.seg_journal.specs.declared.journal.Entry.{Entry}
 use Rattle.twe_base.specs.Limits.{Bounds}
 use Rattle.twe_program.specs.Program.{Program}
-use Rattle.seg_exec.specs.declared.frame.Frame.{Frame}
-use Rattle.seg_exec.specs.Access.{Access, Reads, Writes, Prints, printed}
-use Rattle.seg_exec.specs.Segment.{flow_of, stopped_by}
-use Rattle.seg_exec.specs.Store.{Flow, goes, returns, fails, stops}
+use Rattle.seg_meaning.specs.declared.frame.Frame.{Frame}
+use Rattle.seg_meaning.specs.Access.{Access, Reads, Writes, Prints, printed}
+use Rattle.seg_meaning.specs.Segment.{flow_of, stopped_by}
+use Rattle.seg_meaning.specs.Store.{Flow, goes, returns, fails, stops}
 use Rattle.determinism_laws.specs.Orders.{PrintAlike, SegmentAccesses, is_print, prints}
 use Rattle.determinism_laws.specs.numbering.Played.{PlayedStep, played_prints, step_accesses, step_prints}
 use Rattle.determinism_laws.specs.theorem.Steps.{AreSteps, printed_by}

@@ -5,15 +5,15 @@ use Rattle.twe_base.specs.declared.place.Place.{Place}
 use Rattle.effect_sets.specs.declared.effects.Summary.{Summary}
 use Rattle.twe_base.specs.Limits.{Bounds}
 use Rattle.twe_program.specs.Program.{Program}
-use Rattle.seg_exec.specs.declared.frame.Frame.{Frame}
-use Rattle.seg_exec.specs.declared.stop.Stop.TheVariants.{Make, Joins, Done}
-use Rattle.seg_exec.specs.Access.{Access, Agrees, after}
-use Rattle.seg_exec.specs.Giving.{given}
-use Rattle.seg_exec.specs.Segment.{segment}
-use Rattle.twe_machine.specs.Moves.{frame_without_prints, making_frame}
-use Rattle.seq_elide.specs.declared.progress.Progress.{Progress}
-use Rattle.seq_elide.specs.Elision.{elided, first_frame, is_child, kept_value}
-use Rattle.seq_elide.specs.Elision as elision
+use Rattle.seg_meaning.specs.declared.frame.Frame.{Frame}
+use Rattle.seg_meaning.specs.declared.stop.Stop.TheVariants.{Make, Joins, Done}
+use Rattle.seg_meaning.specs.Access.{Access, Agrees, after}
+use Rattle.seg_meaning.specs.Giving.{given}
+use Rattle.seg_meaning.specs.Segment.{segment}
+use Rattle.machine_state.specs.Moves.{frame_without_prints, making_frame}
+use Rattle.determinism_laws.specs.declared.elision.progress.Progress.{Progress}
+use Rattle.determinism_laws.specs.elision.Elision.{elided, first_frame, is_child, kept_value}
+use Rattle.determinism_laws.specs.elision.Elision as elision
 use Rattle.determinism_laws.specs.numbering.Renumbering.{Numbering}
 
 -- a segment that was run: the frame that it began with, and the cells

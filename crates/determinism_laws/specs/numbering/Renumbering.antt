@@ -1,13 +1,13 @@
 -- Frames, stops and segments with other numbers for their tasks.
 use Rattle.std.specs.Prelude.{◌≡◌, ℕ, List, map, Contains, Option, option_map, Some}
-use Rattle.seg_exec.specs.declared.frame.Frame.{Frame}
-use Rattle.seg_exec.specs.declared.frame.Next.{Next}
-use Rattle.seg_exec.specs.declared.frame.Next.TheVariants.{Go, Get, Join, Closing, Ended}
-use Rattle.seg_exec.specs.declared.stop.Stop.{Stop}
-use Rattle.seg_exec.specs.declared.stop.Stop.TheVariants as stops
-use Rattle.seg_exec.specs.Children.{Children}
-use Rattle.seg_exec.specs.Segment.{Stopped}
-use Rattle.twe_machine.specs.Rows.{row_awaited}
+use Rattle.seg_meaning.specs.declared.frame.Frame.{Frame}
+use Rattle.seg_meaning.specs.declared.frame.Next.{Next}
+use Rattle.seg_meaning.specs.declared.frame.Next.TheVariants.{Go, Get, Join, Closing, Ended}
+use Rattle.seg_meaning.specs.declared.stop.Stop.{Stop}
+use Rattle.seg_meaning.specs.declared.stop.Stop.TheVariants as stops
+use Rattle.seg_meaning.specs.Children.{Children}
+use Rattle.seg_meaning.specs.Segment.{Stopped}
+use Rattle.machine_state.specs.Rows.{row_awaited}
 
 -- the new number of each task
 abbrev pub Numbering : Type 0

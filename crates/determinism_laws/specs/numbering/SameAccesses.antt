@@ -1,9 +1,9 @@
 -- Segments of frames that are the same but for numbers, over cells that have the values that are read.
 use Rattle.std.specs.Prelude.{◌≡◌, ℤ, List}
 use Rattle.twe_program.specs.Program.{Program}
-use Rattle.seg_exec.specs.declared.frame.Frame.{Frame}
-use Rattle.seg_exec.specs.Access.{after}
-use Rattle.seg_exec.specs.Segment.{segment}
+use Rattle.seg_meaning.specs.declared.frame.Frame.{Frame}
+use Rattle.seg_meaning.specs.Access.{after}
+use Rattle.seg_meaning.specs.Segment.{segment}
 use Rattle.determinism_laws.specs.numbering.Renumbering.{Numbering, SameButNumbers, stop_renumbered}
 
 -- The segment of `frame` over `others` does what that of `other` over `cells` does: it makes the same accesses, and leaves a

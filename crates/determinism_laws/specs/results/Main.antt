@@ -4,12 +4,12 @@ use Rattle.effect_check.specs.Acts.{is_deterministic}
 use Rattle.seg_journal.specs.declared.journal.Entry.{Entry}
 use Rattle.twe_base.specs.Limits.{Bounds}
 use Rattle.twe_program.specs.Program.{Program}
-use Rattle.twe_machine.specs.declared.state.State.{State}
-use Rattle.twe_machine.specs.Moves.{initial_values}
-use Rattle.twe_machine.specs.Runs.{AllTasksDone, state_after}
-use Rattle.seq_elide.specs.declared.progress.Progress.{Progress}
-use Rattle.seq_elide.specs.Elision.{elided}
-use Rattle.seq_elide.specs.Elision as elision
+use Rattle.machine_state.specs.declared.state.State.{State}
+use Rattle.machine_state.specs.Moves.{initial_values}
+use Rattle.machine_state.specs.Runs.{AllTasksDone, state_after}
+use Rattle.determinism_laws.specs.declared.elision.progress.Progress.{Progress}
+use Rattle.determinism_laws.specs.elision.Elision.{elided}
+use Rattle.determinism_laws.specs.elision.Elision as elision
 
 -- the declaration of `main` is deterministic
 abbrev pub MainIsDeterministic : Program → Type 0

@@ -3,23 +3,23 @@ use Rattle.std.specs.Prelude.{◌≡◌, ◌≤◌, ◌+◌, ◌++◌, ◌⊎◌
 use Rattle.seg_journal.specs.declared.journal.Entry.{Entry}
 use Rattle.twe_base.specs.Limits.{Bounds}
 use Rattle.twe_program.specs.Program.{Program}
-use Rattle.seg_exec.specs.declared.frame.Frame.{Frame}
-use Rattle.seg_exec.specs.Access.{printed}
-use Rattle.seg_exec.specs.Entry.{entry_frame}
-use Rattle.twe_machine.specs.declared.state.TaskRow.{TaskRow}
-use Rattle.twe_machine.specs.declared.state.TaskStatus.TheVariants.{Done}
-use Rattle.twe_machine.specs.Moves.{value_of}
-use Rattle.twe_machine.specs.Rows.{HasStatus, IsRow}
-use Rattle.twe_machine.specs.Runs.{state_after}
+use Rattle.seg_meaning.specs.declared.frame.Frame.{Frame}
+use Rattle.seg_meaning.specs.Access.{printed}
+use Rattle.seg_meaning.specs.Entry.{entry_frame}
+use Rattle.machine_state.specs.declared.state.TaskRow.{TaskRow}
+use Rattle.machine_state.specs.declared.state.TaskStatus.TheVariants.{Done}
+use Rattle.machine_state.specs.Moves.{value_of}
+use Rattle.machine_state.specs.Rows.{HasStatus, IsRow}
+use Rattle.machine_state.specs.Runs.{state_after}
 use Rattle.determinism_laws.specs.Deterministic.{IsDeterministic}
 use Rattle.determinism_laws.specs.Execution.{Execution, IsNextSegment}
 use Rattle.determinism_laws.specs.Frames.{StartsFrom}
 use Rattle.determinism_laws.specs.Orders.{SegmentAccesses}
 use Rattle.determinism_laws.specs.Segments.{Spawns, state_before}
 use Rattle.determinism_laws.specs.Sequential.{AreSegmentsBelow, ExecuteAlike, IsEnabledThroughout, IsRankOrder, IsUnder}
-use Rattle.seq_elide.specs.declared.progress.Progress.{Progress}
-use Rattle.seq_elide.specs.Elision.{elided, first_frame}
-use Rattle.seq_elide.specs.Elision as elision
+use Rattle.determinism_laws.specs.declared.elision.progress.Progress.{Progress}
+use Rattle.determinism_laws.specs.elision.Elision.{elided, first_frame}
+use Rattle.determinism_laws.specs.elision.Elision as elision
 use Rattle.determinism_laws.specs.numbering.Played.{IsInjective, Played, PlayedStep, step_accesses}
 use Rattle.determinism_laws.specs.numbering.Renumbering.{Numbering}
 
@@ -115,11 +115,11 @@ pub record IsElidedAsRun (p : Program) (lim : Bounds) (journal : List Entry)
       → tasks_after 1 children ≤ lim.tasks
       → ElidesAsRun p lim journal t row from count task args (tasks_after 1 children)
 
--- so it is for each deterministic task that is done at the end, if its first segment starts from the first frame of a
--- declaration, and for entries before each of which it is enabled, if they begin no later than its first segment, and it is
--- done after them
-abbrev pub DoneTasksAreElided : Program → Bounds → List Entry → Type 0
-DoneTasksAreElided p lim journal =
+-- So it is, in each numbering of the tasks below it, for each deterministic task that is done at the end, if its first segment
+-- starts from the first frame of a declaration, and for entries before each of which it is enabled, if they begin no later than
+-- its first segment, and it is done after them
+abbrev pub DoneTasksElideInEachNumbering : Program → Bounds → List Entry → Type 0
+DoneTasksElideInEachNumbering p lim journal =
     (t first from count : ℕ) (row : TaskRow) (task : ℕ) (args : List ℤ)
     → IsRow (state_after p lim journal) t row → row.status ≡ Done → IsDeterministic p row
     → 1 ≤ lim.tasks → IsNextSegment journal t 0 first → from ≤ first → IsEnabledThroughout p lim journal t from count
@@ -137,9 +137,9 @@ DoneTasksElideAsRun p lim journal =
     → StartsFrom p lim journal t first (first_frame lim t (entry_frame p task args))
     → (upto : ℕ) × ElidesAsRun p lim journal t row from count task args upto
 
--- each deterministic task that is done at the end, with its own declaration and its own arguments
-abbrev pub DeterministicTasksElideAsRun : Program → Bounds → List Entry → Type 0
-DeterministicTasksElideAsRun p lim journal =
+-- And so it is for the declaration and the arguments that the task has, with no condition on its first frame.
+abbrev pub DoneTasksElideByTheirDeclarations : Program → Bounds → List Entry → Type 0
+DoneTasksElideByTheirDeclarations p lim journal =
     (t first from count : ℕ) (row : TaskRow) → IsRow (state_after p lim journal) t row → row.status ≡ Done
     → IsDeterministic p row
     → 1 ≤ lim.tasks → IsNextSegment journal t 0 first → from ≤ first → IsEnabledThroughout p lim journal t from count

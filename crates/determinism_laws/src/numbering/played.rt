@@ -3,8 +3,8 @@ ghost use Rattle.std.specs.Prelude.{◌≡◌, ◌≤◌, ◌∷◌, ◌++◌, �
 ghost use Rattle.twe_base.specs.Limits.{Bounds};
 ghost use Rattle.twe_program.specs.Program.{Program};
 ghost use Rattle.twe_program.specs.WellFormed.{IsWellFormed};
-ghost use Rattle.seg_exec.specs.Entry.{entry_frame};
-ghost use Rattle.seq_elide.specs.Elision.{first_frame};
+ghost use Rattle.seg_meaning.specs.Entry.{entry_frame};
+ghost use Rattle.determinism_laws.specs.elision.Elision.{first_frame};
 ghost use Rattle.determinism_laws.specs.numbering.Played.{ElidesTo, FindTheSame, IsInjective, Played, PlayedStep};
 ghost use Rattle.determinism_laws.specs.numbering.Numberings.{AllBelow, AllDiffer, numbering_of};
 ghost use Rattle.determinism_laws.specs.numbering.Renumbering.{Numbering};

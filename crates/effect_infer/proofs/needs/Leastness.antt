@@ -19,7 +19,7 @@ use Rattle.effect_check.specs.Acts.{filled_summary}
 use Rattle.effect_check.specs.Covered.{Does}
 use Rattle.effect_check.specs.FailsEffect.{MethodFails, FailsEffect, access_outside, called_outside}
 use Rattle.effect_infer.specs.declared.needs.need.Need.{Need}
-use Rattle.effect_infer.specs.declared.needs.need.Step.TheVariants as steps
+use Rattle.effect_infer.specs.declared.needs.need.BodyStep.TheVariants as steps
 use Rattle.effect_infer.specs.needs.Steps.{steps_in_all}
 use Rattle.effect_infer.specs.needs.Needs.{IsNeed, own, called, HasStep, effect_of, settled, settled_elem, filled_need}
 use Rattle.effect_infer.specs.needs.Choices.{with_summaries, with_each, speaks_of, IsChoice, NoMethodFails, CoversNeeds}

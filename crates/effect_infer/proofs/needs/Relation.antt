@@ -14,8 +14,8 @@ use Rattle.effect_check.specs.declared.act.ActKind.TheVariants as acts
 use Rattle.effect_check.specs.Acts.{filled_summary, acts_in_all}
 use Rattle.effect_check.specs.Covered.{Does}
 use Rattle.effect_infer.specs.declared.needs.need.Need.{Need}
-use Rattle.effect_infer.specs.declared.needs.need.Step.{Step}
-use Rattle.effect_infer.specs.declared.needs.need.Step.TheVariants as steps
+use Rattle.effect_infer.specs.declared.needs.need.BodyStep.{BodyStep}
+use Rattle.effect_infer.specs.declared.needs.need.BodyStep.TheVariants as steps
 use Rattle.effect_infer.specs.needs.Steps.{steps_in_all}
 use Rattle.effect_infer.specs.needs.Needs.{effect_of}
 use Rattle.effect_infer.specs.needs.Choices.{with_each}
@@ -36,22 +36,22 @@ seen-in (b ∷ others) s h = elim (in-cases s (seen_of b.kind) (seen others) h) 
   | inr later ↦ let found = seen-in others s later in (found.0, inr found.1, found.2)
 ]
 
-in-map : (q : Program) (ss : List Step) (s : Step) → IsIn s ss → IsIn (shown q s) (map (shown q) ss)
+in-map : (q : Program) (ss : List BodyStep) (s : BodyStep) → IsIn s ss → IsIn (shown q s) (map (shown q) ss)
 in-map q [] s h = absurd h
 in-map q (t ∷ others) s (inl e) = inl (ap (shown q) e)
 in-map q (t ∷ others) s (inr h) = inr (in-map q others s h)
 
-map-in : (q : Program) (ss : List Step) (x : Seen) → IsIn x (map (shown q) ss) → (s : Step) × IsIn s ss × (x ≡ shown q s)
+map-in : (q : Program) (ss : List BodyStep) (x : Seen) → IsIn x (map (shown q) ss) → (s : BodyStep) × IsIn s ss × (x ≡ shown q s)
 map-in q [] x h = absurd h
 map-in q (t ∷ others) x (inl e) = (t, inl refl, e)
 map-in q (t ∷ others) x (inr h) = let found = map-in q others x h in (found.0, inr found.1, found.2)
 
 -- a step that is shown as a read or a write is one, and one that is shown as a call is one
-touch-shown : (q : Program) (effect : Effect) (s : Step) → touched effect ≡ shown q s → (need : Need) × (s ≡ steps.Touch need) × (effect ≡ effect_of need)
+touch-shown : (q : Program) (effect : Effect) (s : BodyStep) → touched effect ≡ shown q s → (need : Need) × (s ≡ steps.Touch need) × (effect ≡ effect_of need)
 touch-shown q effect (steps.Touch need) e = (need, refl, cc)
 touch-shown q effect (steps.Call method args) e = absurd (cc)
 
-call-shown : (q : Program) (effects : Summary) (s : Step) → called effects ≡ shown q s
+call-shown : (q : Program) (effects : Summary) (s : BodyStep) → called effects ≡ shown q s
     → (method : ℕ) × (args : List Elem) × (s ≡ steps.Call method args) × (effects ≡ filled_summary (slice_get q.methods method) args)
 call-shown q effects (steps.Touch need) e = absurd (cc)
 call-shown q effects (steps.Call method args) e = (method, args, refl, cc)
@@ -74,16 +74,16 @@ call-seen effects (acts.Make future spawned deterministic other future_place pla
 call-seen effects (acts.Wait future join place) h = absurd h
 
 module _ (q : Program) (decl : Decl) where
-  body_steps : List Step
+  body_steps : List BodyStep
   body_steps = steps_in_all q.cells decl.body.block
 
-  act-shows : (point : ℕ) (kind : ActKind) (x : Seen) → Does q decl point kind → IsIn x (seen_of kind) → (s : Step) × IsIn s (steps_in_all q.cells decl.body.block) × (x ≡ shown q s)
+  act-shows : (point : ℕ) (kind : ActKind) (x : Seen) → Does q decl point kind → IsIn x (seen_of kind) → (s : BodyStep) × IsIn s (steps_in_all q.cells decl.body.block) × (x ≡ shown q s)
   act-shows point kind x does h =
       let act : Act = record { point = point; kind = kind } in
       let among = in-seen (acts_in_all q decl.body.block) act x (contains-in (acts_in_all q decl.body.block) act does) h in
       map-in q (steps_in_all q.cells decl.body.block) x (subst (IsIn x) (seen-statements q decl.body.block) among)
 
-  step-shows : (s : Step) → IsIn s (steps_in_all q.cells decl.body.block) → (a : Act) × Does q decl a.point a.kind × IsIn (shown q s) (seen_of a.kind)
+  step-shows : (s : BodyStep) → IsIn s (steps_in_all q.cells decl.body.block) → (a : Act) × Does q decl a.point a.kind × IsIn (shown q s) (seen_of a.kind)
   step-shows s there =
       let among = in-map q (steps_in_all q.cells decl.body.block) s there in
       let found = seen-in (acts_in_all q decl.body.block) (shown q s) (subst (IsIn (shown q s)) (sym (seen-statements q decl.body.block)) among) in
@@ -120,7 +120,7 @@ module _ (q : Program) (decl : Decl) where
       (found.0.point, is.0, subst (Does q decl found.0.point) is.1 found.1)
 
 -- the arguments of a call are indexes
-regular-in : (ss : List Step) (s : Step) → regular ss ≡ true → IsIn s ss → is_regular s ≡ true
+regular-in : (ss : List BodyStep) (s : BodyStep) → regular ss ≡ true → IsIn s ss → is_regular s ≡ true
 regular-in [] s h there = absurd there
 regular-in (t ∷ others) s h (inl e) = subst (λ u. is_regular u ≡ true) (sym e) (both-true (is_regular t) (regular others) h).0
 regular-in (t ∷ others) s h (inr there) = regular-in others s (both-true (is_regular t) (regular others) h).1 there

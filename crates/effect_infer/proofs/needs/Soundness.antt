@@ -17,7 +17,7 @@ use Rattle.effect_check.specs.Acts.{filled_summary}
 use Rattle.effect_check.specs.Covered.{Does}
 use Rattle.effect_check.specs.FailsEffect.{TaskFails, MethodFails, FailsEffect, access, called, spawned, joined, spawned_again, made_later, waited, not_deterministic, access_outside, called_outside}
 use Rattle.effect_infer.specs.declared.needs.need.Need.{Need}
-use Rattle.effect_infer.specs.declared.needs.need.Step.TheVariants as steps
+use Rattle.effect_infer.specs.declared.needs.need.BodyStep.TheVariants as steps
 use Rattle.effect_infer.specs.needs.Steps.{steps_in_all}
 use Rattle.effect_infer.specs.needs.Needs.{IsNeed, effect_of, settled, filled_need}
 use Rattle.effect_infer.specs.needs.Needs as needs

@@ -18,8 +18,8 @@ use Rattle.effect_check.specs.declared.act.ActKind.TheVariants as acts
 use Rattle.effect_check.specs.Standing.{element_of_index, elements_of, path_at, console_element}
 use Rattle.effect_check.specs.Acts.{filled_summary, acts_of, acts_of_all, acts_of_value, acts_in, acts_in_all, acts_in_one}
 use Rattle.effect_check.specs.Acts as done
-use Rattle.effect_infer.specs.declared.needs.need.Step.{Step}
-use Rattle.effect_infer.specs.declared.needs.need.Step.TheVariants as steps
+use Rattle.effect_infer.specs.declared.needs.need.BodyStep.{BodyStep}
+use Rattle.effect_infer.specs.declared.needs.need.BodyStep.TheVariants as steps
 use Rattle.effect_infer.specs.needs.Steps.{declared_cell, touch_step, call_step, print, steps_of, steps_of_all, steps_of_value, steps_in, steps_in_all, steps_in_one}
 use Rattle.effect_infer.specs.needs.Needs.{effect_of}
 use Rattle.twe_base.proofs.Members.{IsIn, in-left, in-right, in-cases, both-true, true-both}
@@ -42,7 +42,7 @@ seen [] = []
 seen (a ∷ others) = seen_of a.kind ++ seen others
 
 -- a step, with the effects that the program's summaries give to called methods
-abbrev pub shown : Program → Step → Seen
+abbrev pub shown : Program → BodyStep → Seen
 shown q (steps.Touch need) = touched (effect_of need)
 shown q (steps.Call method args) = called (filled_summary (slice_get q.methods method) args)
 
@@ -51,7 +51,7 @@ seen-append [] ys = refl
 seen-append (x ∷ xs) ys = ap (λ (zs : List Seen). seen_of x.kind ++ zs) (seen-append xs ys) ∙ sym (append_assoc (seen_of x.kind) (seen xs) (seen ys))
 
 -- two parts, each of which is seen as its steps
-joined : (q : Program) (xs ys : List Act) (us vs : List Step) → seen xs ≡ map (shown q) us → seen ys ≡ map (shown q) vs → seen (xs ++ ys) ≡ map (shown q) (us ++ vs)
+joined : (q : Program) (xs ys : List Act) (us vs : List BodyStep) → seen xs ≡ map (shown q) us → seen ys ≡ map (shown q) vs → seen (xs ++ ys) ≡ map (shown q) (us ++ vs)
 joined q xs ys us vs e f =
     seen-append xs ys ∙ ap (λ (zs : List Seen). zs ++ seen ys) e ∙ ap (λ (zs : List Seen). map (shown q) us ++ zs) f ∙ sym (map-append (shown q) us vs)
 
@@ -117,15 +117,15 @@ mutual
   seen-arms q point no_else = refl
 
 -- the arguments of each call are indexes
-abbrev pub is_regular : Step → Bool
+abbrev pub is_regular : BodyStep → Bool
 is_regular (steps.Touch need) = true
 is_regular (steps.Call method args) = are_indexes args
 
-abbrev pub regular : List Step → Bool
+abbrev pub regular : List BodyStep → Bool
 regular [] = true
 regular (s ∷ others) = is_regular s && regular others
 
-regular-append : (xs ys : List Step) → regular xs ≡ true → regular ys ≡ true → regular (xs ++ ys) ≡ true
+regular-append : (xs ys : List BodyStep) → regular xs ≡ true → regular ys ≡ true → regular (xs ++ ys) ≡ true
 regular-append [] ys h k = k
 regular-append (x ∷ xs) ys h k =
     let parts = both-true (is_regular x) (regular xs) h in
@@ -148,7 +148,7 @@ pub elements-indexes : (es : Arguments) → are_indexes (elements_of es) ≡ tru
 elements-indexes args.no_more = refl
 elements-indexes (argument first others) = true-both (is_index (element_of_index first)) (are_indexes (elements_of others)) (element-index first) (elements-indexes others)
 
-call-regular : (method : ℕ) (es : Arguments) (steps : List Step) → regular steps ≡ true → regular (call_step method es ∷ steps) ≡ true
+call-regular : (method : ℕ) (es : Arguments) (steps : List BodyStep) → regular steps ≡ true → regular (call_step method es ∷ steps) ≡ true
 call-regular method es steps h = true-both (are_indexes (elements_of es)) (regular steps) (elements-indexes es) h
 
 mutual

@@ -8,8 +8,8 @@ use Rattle.effect_sets.specs.Covers.{effect_covers}
 use Rattle.twe_program.specs.declared.program.Decl.{Decl}
 use Rattle.twe_program.specs.Program.{Program}
 use Rattle.effect_infer.specs.declared.needs.need.Need.{Need}
-use Rattle.effect_infer.specs.declared.needs.need.Step.{Step}
-use Rattle.effect_infer.specs.declared.needs.need.Step.TheVariants.{Touch, Call}
+use Rattle.effect_infer.specs.declared.needs.need.BodyStep.{BodyStep}
+use Rattle.effect_infer.specs.declared.needs.need.BodyStep.TheVariants.{Touch, Call}
 use Rattle.effect_infer.specs.needs.Steps.{steps_in_all}
 
 -- a variable that is no parameter becomes any index; everything else stays
@@ -28,7 +28,7 @@ abbrev pub filled_need : List Elem → Need → Need
 filled_need args need = record { write = need.write; elems = map (fill_elem args) need.elems }
 
 -- one step of the body of the method with this number
-abbrev pub HasStep : Program → ℕ → Decl → Step → Type 0
+abbrev pub HasStep : Program → ℕ → Decl → BodyStep → Type 0
 HasStep p m decl step = (slice_get p.methods m ≡ Some decl) × Contains (steps_in_all p.cells decl.body.block) step
 
 -- The method with this number needs it: its body reads or writes it, or its body calls a method that needs it. So there is a

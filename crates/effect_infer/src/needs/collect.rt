@@ -2,7 +2,7 @@
 ghost use Rattle.std.specs.Prelude.{◌≡◌, ◌∷◌, [], ◌++◌, OnOk};
 ghost use Rattle.effect_infer.specs.needs.Steps.{call_step, steps_of, steps_of_all};
 
-use crate::needs::need::{Step, Steps, add_touch};
+use crate::needs::need::{BodyStep, Steps, add_touch};
 use effect_check::{accessed_elements, element_of_index, elements_of};
 use std::alloc::Global;
 use twe_base::Memory;
@@ -18,7 +18,7 @@ pub(crate) fn add_call(
     ensures { OnOk result (steps.new ≡ steps.old ++ call_step method args.now ∷ []) }
 {
     let args = elements_of(alloc, args)?;
-    steps.push(Step::Call { method, args })
+    steps.push(BodyStep::Call { method, args })
 }
 
 /// Adds what is done to evaluate the expression.

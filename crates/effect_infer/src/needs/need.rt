@@ -15,7 +15,7 @@ pub struct Need {
 
 /// One thing that a body does.
 #[derive(Debug, Drop)]
-pub enum Step {
+pub enum BodyStep {
     /// It reads or writes cells, or prints.
     Touch(Need),
     /// It calls a method.
@@ -28,11 +28,11 @@ pub enum Step {
 }
 
 /// Steps in the order of the text.
-pub type Steps = List<Step>;
+pub type Steps = List<BodyStep>;
 
 /// Adds a read or a write of the path with these elements.
 pub(crate) fn add_touch(steps: &mut Steps, write: bool, elems: Elems) -> Result<(), Memory>
-    ensures { OnOk result (steps.new ≡ steps.old ++ Step.Touch (record { write = write; elems = elems }) ∷ []) }
+    ensures { OnOk result (steps.new ≡ steps.old ++ BodyStep.Touch (record { write = write; elems = elems }) ∷ []) }
 {
-    steps.push(Step::Touch(Need { write, elems }))
+    steps.push(BodyStep::Touch(Need { write, elems }))
 }

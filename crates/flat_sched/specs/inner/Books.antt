@@ -3,11 +3,11 @@ use Rattle.std.specs.Prelude.{◌≡◌, ◌≢◌, ◌⊎◌, ◌<◌, ◌≤�
 use Rattle.wait_graph.specs.Waiting.{IsDone, WaitsFor, WaitsForNobody, WaitsOn}
 use Rattle.seg_journal.specs.declared.moves.Kind.{Kind}
 use Rattle.seg_journal.specs.declared.moves.Move.{Move}
-use Rattle.twe_machine.specs.declared.state.State.{State}
-use Rattle.twe_machine.specs.declared.state.TaskStatus.TheVariants.{Made, Enabled}
-use Rattle.twe_machine.specs.Legal.{Interfere, IsBar, MayRun, MayTake}
+use Rattle.machine_state.specs.declared.state.State.{State}
+use Rattle.machine_state.specs.declared.state.TaskStatus.TheVariants.{Made, Enabled}
+use Rattle.machine_state.specs.Legal.{Interfere, IsBar, MayRun, MayTake}
 use Rattle.twe_machine.specs.Listings.{IsListing}
-use Rattle.twe_machine.specs.Rows.{HasStatus}
+use Rattle.machine_state.specs.Rows.{HasStatus}
 use Rattle.flat_sched.specs.declared.books.Books.{Books}
 use Rattle.flat_sched.specs.inner.Groups.{AreGroups, AreKept, IsMember}
 use Rattle.flat_sched.specs.inner.Lists.{IsListed, IsReady, IsReadyFrom}

@@ -3,9 +3,9 @@ use Rattle.std.specs.Prelude.{◌≡◌, ◌≢◌, ℕ, List, Option, Some, sli
 use Rattle.region_paths.specs.Concrete.{ConcretePath, InSet}
 use Rattle.region_paths.specs.Filled.{filled}
 use Rattle.effect_sets.specs.declared.effects.Effect.{Effect}
-use Rattle.twe_machine.specs.declared.state.State.{State}
-use Rattle.twe_machine.specs.declared.state.TaskRow.{TaskRow}
-use Rattle.twe_machine.specs.Rows.{IsRow}
+use Rattle.machine_state.specs.declared.state.State.{State}
+use Rattle.machine_state.specs.declared.state.TaskRow.{TaskRow}
+use Rattle.machine_state.specs.Rows.{IsRow}
 use Rattle.flat_sched.specs.declared.groups.Group.{Group}
 use Rattle.flat_sched.specs.inner.Lists.{IsReady}
 

@@ -4,13 +4,13 @@ use mathlib.Core.List.{IsPrefix}
 use Rattle.seg_journal.specs.declared.journal.Entry.{Entry}
 use Rattle.twe_base.specs.Limits.{Bounds}
 use Rattle.twe_program.specs.Program.{Program}
-use Rattle.twe_machine.specs.declared.state.State.{State}
-use Rattle.twe_machine.specs.Legal.{MayAdmit, MayRun}
+use Rattle.machine_state.specs.declared.state.State.{State}
+use Rattle.machine_state.specs.Legal.{MayAdmit, MayRun}
 use Rattle.twe_machine.specs.Listings.{IsListing}
-use Rattle.twe_machine.specs.Runs.{IsRun}
+use Rattle.machine_state.specs.Runs.{IsRun}
 use Rattle.floor_crew.specs.declared.at_rest.RunAtRest.{RunAtRest}
-use Rattle.floor_crew.specs.declared.looking.Found.{Found}
-use Rattle.floor_crew.specs.declared.looking.Found.TheVariants.{Admissible, Held, Runs, Waits, Over}
+use Rattle.floor_crew.specs.declared.outlook_at_rest.OutlookAtRest.{OutlookAtRest}
+use Rattle.floor_crew.specs.declared.outlook_at_rest.OutlookAtRest.TheVariants.{Admissible, Held, Runs, Waits, Over}
 
 -- The journal is legal for the program under the limits, and leads to the state. The enabled tasks are those of the state.
 pub record IsSound (p : Program) (lim : Bounds) (run : RunAtRest) : Type 0 where
@@ -22,10 +22,10 @@ pub record HasGoneOn (p : Program) (lim : Bounds) (earlier : List Entry) (run : 
   pub sound : IsSound p lim run
   pub begins : IsPrefix earlier run.rest.journal
 
--- what was found of a task that may move
-abbrev pub IsFound : State → ℕ → Found → Type 0
-IsFound st task Admissible = MayAdmit st task
-IsFound st task Runs = MayRun st task
-IsFound st task (Held by) = Unit {0}
-IsFound st task (Waits on next) = Unit {0}
-IsFound st task Over = Unit {0}
+-- a task of which this was found may be admitted, or may run, if that is what was found
+abbrev pub IsOutlook : State → ℕ → OutlookAtRest → Type 0
+IsOutlook st task Admissible = MayAdmit st task
+IsOutlook st task Runs = MayRun st task
+IsOutlook st task (Held by) = Unit {0}
+IsOutlook st task (Waits on next) = Unit {0}
+IsOutlook st task Over = Unit {0}

@@ -1,20 +1,18 @@
 -- The run of a crew, and what a quiet step does to it.
-use Rattle.std.specs.Prelude.{◌≡◌, ◌↔◌, ℕ, List, [], ◌∷◌, ◌++◌, Option, None, Some}
+use Rattle.std.specs.Prelude.{◌≡◌, ◌↔◌, List, [], ◌∷◌, ◌++◌, Option, None, Some}
 use Rattle.region_paths.specs.declared.elements.Elem.{Elem}
 use Rattle.prefix_tree.specs.Nodes.{IsNode, IsTreeOfPaths}
 use Rattle.seg_journal.specs.declared.journal.Entry.{Entry}
 use Rattle.seg_journal.specs.declared.moves.Move.{Move}
 use Rattle.twe_base.specs.Limits.{Bounds}
-use Rattle.twe_base.specs.declared.fault.FaultKind.{FaultKind}
-use Rattle.twe_base.specs.declared.place.Place.{Place}
 use Rattle.twe_program.specs.Nodes.{IsNodePath}
 use Rattle.twe_program.specs.Program.{Program}
-use Rattle.twe_machine.specs.declared.ending.Outcome.TheVariants as outcomes
-use Rattle.twe_machine.specs.LowestFirst.{IsLowest}
-use Rattle.twe_machine.specs.Runs.{IsOutcome, entry_of}
-use Rattle.flat_sched.specs.Stuck.{IsStuckCycle}
-use Rattle.twe_rounds.specs.declared.crew.Quietly.{Quietly}
-use Rattle.twe_rounds.specs.declared.crew.Quietly.TheVariants.{Faulted, AllDone, Stuck, Moved}
+use Rattle.machine_state.specs.declared.ending.Outcome.TheVariants as outcomes
+use Rattle.machine_state.specs.LowestFirst.{IsLowest}
+use Rattle.machine_state.specs.Runs.{IsOutcome, entry_of}
+use Rattle.flat_sched.specs.declared.ending.RunEnd.{RunEnd}
+use Rattle.flat_sched.specs.declared.ending.RunEnd.TheVariants.{AllDone, Fault, Stuck, Unfinished}
+use Rattle.flat_sched.specs.RunEnds.{IsRunEnd}
 use Rattle.floor_crew.specs.declared.at_rest.RunAtRest.{RunAtRest}
 use Rattle.floor_crew.specs.inner.GoingOn.{IsSound}
 
@@ -33,14 +31,12 @@ pub record IsShapeOf (p : Program) (nodes : List (List Elem)) : Type 0 where
   pub tree : IsTreeOfPaths nodes
   pub exact : (path : List Elem) → (IsNode nodes path ↔ IsNodePath p path)
 
--- by the outcome of the run so far: the step takes the lowest legal move, if the run can go on, and else changes nothing
-abbrev pub Steps : Program → Bounds → RunAtRest → RunAtRest → Quietly → Type 0
-Steps p lim old new Faulted =
-    (new ≡ old)
-    × ((task : ℕ) × (kind : FaultKind) × (place : Place) × IsOutcome old.rest.state (outcomes.Fault task kind place))
-Steps p lim old new AllDone = (new ≡ old) × IsOutcome old.rest.state outcomes.AllDone
-Steps p lim old new (Stuck cycle) = (new ≡ old) × IsOutcome old.rest.state outcomes.Stuck × IsStuckCycle old.rest.state cycle
-Steps p lim old new Moved =
+-- by how the run stood: the step takes the lowest legal move, if the run can go on, and else changes nothing
+abbrev pub Steps : Program → Bounds → RunAtRest → RunAtRest → RunEnd → Type 0
+Steps p lim old new AllDone = (new ≡ old) × IsRunEnd old.rest.state AllDone
+Steps p lim old new (Fault task kind place) = (new ≡ old) × IsRunEnd old.rest.state (Fault task kind place)
+Steps p lim old new (Stuck cycle) = (new ≡ old) × IsRunEnd old.rest.state (Stuck cycle)
+Steps p lim old new Unfinished =
     IsOutcome old.rest.state outcomes.Unfinished
     × ((mv : Move) × IsLowest old.rest.state mv
     × (new.rest.journal ≡ old.rest.journal ++ entry_of p lim old.rest.state mv ∷ []))

@@ -3,8 +3,8 @@ use Rattle.std.specs.Prelude.{◌≡◌, ℕ, List, []}
 use Rattle.atomic_table.specs.Seated.{TableId}
 use Rattle.seg_journal.specs.declared.numbered.NumberedEntry.{NumberedEntry}
 use Rattle.seg_journal.specs.Merging.{all_of}
-use Rattle.floor_table.specs.declared.view.SeatKind.TheVariants.{Main, Other}
-use Rattle.floor_table.specs.Holds.{HasGivenAll}
+use Rattle.floor_laws.specs.declared.table.view.SeatKind.TheVariants.{Main, Other}
+use Rattle.floor_laws.specs.table.Holds.{HasGivenAll}
 use Rattle.task_floor.specs.Stands.{TreeStand}
 
 -- a stand of a worker on this table

@@ -4,17 +4,17 @@ use Rattle.seg_journal.specs.declared.journal.End.{End}
 use Rattle.seg_journal.specs.declared.journal.End.TheVariants as ends
 use Rattle.seg_journal.specs.declared.moves.Kind.{Kind}
 use Rattle.seg_journal.specs.declared.moves.Kind.TheVariants.{Admit, Run}
-use Rattle.twe_machine.specs.declared.state.State.{State}
-use Rattle.twe_machine.specs.declared.state.TaskRow.{TaskRow}
-use Rattle.twe_machine.specs.declared.state.TaskStatus.{TaskStatus}
-use Rattle.twe_machine.specs.declared.state.TaskStatus.TheVariants.{Done, Made}
-use Rattle.twe_machine.specs.Rows.{HasStatus}
+use Rattle.machine_state.specs.declared.state.State.{State}
+use Rattle.machine_state.specs.declared.state.TaskRow.{TaskRow}
+use Rattle.machine_state.specs.declared.state.TaskStatus.{TaskStatus}
+use Rattle.machine_state.specs.declared.state.TaskStatus.TheVariants.{Done, Made}
+use Rattle.machine_state.specs.Rows.{HasStatus}
 use Rattle.span_profile.specs.Strands.{Strand}
 use Rattle.span_profile.specs.heaviest_chain.Chains.{Leads}
 use Rattle.span_profile.specs.heaviest_chain.Nodes.{Node, SharesKey}
 use Rattle.held_span.specs.Freed.{FreesFrom, RunEntry}
 use Rattle.held_span.specs.Holds.{MakesTask}
-use Rattle.held_span.specs.declared.notes.Notes.{Notes}
+use Rattle.held_span.specs.declared.notes.EntryNotes.{EntryNotes}
 
 -- a task that was looked for, and 0 if there is none
 abbrev pub low_of : Option ℕ → ℕ
@@ -50,7 +50,7 @@ makers_after makers number (ends.Done value) = makers
 makers_after makers number (ends.Fault kind place) = makers
 
 -- what is noted after one more entry, which ended so, and of whose task this was the lowest holder
-abbrev pub noted : Notes → End → Option ℕ → Notes
+abbrev pub noted : EntryNotes → End → Option ℕ → EntryNotes
 noted old end low = record { lows = old.lows ++ low ∷ []; makers = makers_after old.makers (length old.lows) end }
 
 -- the task from which an entry frees an admission of which this was noted
@@ -79,7 +79,7 @@ pub record HasBegun (st : State) (strand : Strand) : Type 0 where
   pub over : IsTrue strand.done → (status ≡ Done) × (strand.made ≡ None)
 
 -- This was noted of the entries of a run up to a state.
-pub record AreNoted (rows : List TaskRow) (st : State) (nodes : List Node) (stages : List RunEntry) (notes : Notes) : Type 0 where
+pub record AreNoted (rows : List TaskRow) (st : State) (nodes : List Node) (stages : List RunEntry) (notes : EntryNotes) : Type 0 where
   pub lows_count : length notes.lows ≡ length stages
   pub holders : TellHolders rows nodes stages notes.lows
   pub makers_count : length notes.makers ≡ length st.tasks

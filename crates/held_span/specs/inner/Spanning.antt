@@ -8,11 +8,11 @@ use Rattle.twe_program.specs.Program.{Program}
 use Rattle.wait_graph.specs.Chain.{Chain}
 use Rattle.wait_graph.specs.declared.tasks.Link.{Link}
 use Rattle.wait_graph.specs.Waiting.{IsDone, WaitsOnUnlessDone}
-use Rattle.twe_machine.specs.declared.state.State.{State}
-use Rattle.twe_machine.specs.declared.state.TaskRow.{TaskRow}
-use Rattle.twe_machine.specs.declared.state.TaskStatus.TheVariants.{Enabled}
-use Rattle.twe_machine.specs.Rows.{HasStatus}
-use Rattle.twe_machine.specs.Runs.{Legal, state_after}
+use Rattle.machine_state.specs.declared.state.State.{State}
+use Rattle.machine_state.specs.declared.state.TaskRow.{TaskRow}
+use Rattle.machine_state.specs.declared.state.TaskStatus.TheVariants.{Enabled}
+use Rattle.machine_state.specs.Rows.{HasStatus}
+use Rattle.machine_state.specs.Runs.{Legal, state_after}
 use Rattle.run_laws.specs.Orders.{HasMade}
 use Rattle.held_span.specs.Marks.{AreMarksOf, left_by}
 use Rattle.held_span.specs.Rivals.{EffectList}

@@ -3,15 +3,15 @@ use Rattle.std.specs.Prelude.{◌≡◌, ◌<◌, ℕ, List, [], ◌∷◌, Opti
 use Rattle.std.specs.List.{All, AllZip, Contains}
 use Rattle.std.specs.List.Sorted.{IsStrictlyIncreasing}
 use Rattle.seg_journal.specs.declared.journal.Entry.{Entry}
-use Rattle.twe_machine.specs.declared.state.TaskRow.{TaskRow}
-use Rattle.twe_machine.specs.Runs.{is_done}
+use Rattle.machine_state.specs.declared.state.TaskRow.{TaskRow}
+use Rattle.machine_state.specs.Runs.{is_done}
 use Rattle.span_profile.specs.declared.heaviest_chain.chains.Heaviest.{Heaviest}
 use Rattle.span_profile.specs.heaviest_chain.LastBefore.{AreLastBefore}
 use Rattle.span_profile.specs.heaviest_chain.Nodes.{Node}
 use Rattle.held_span.specs.Freed.{RunEntry}
 use Rattle.held_span.specs.Holds.{IsHeldFor, IsHold, held_entry}
 use Rattle.held_span.specs.declared.hold.Hold.{Hold}
-use Rattle.held_span.specs.declared.notes.Notes.{Notes}
+use Rattle.held_span.specs.declared.notes.EntryNotes.{EntryNotes}
 use Rattle.held_span.specs.inner.Noting.{TellHolders, TellMakers}
 
 -- an entry that was looked for, if there is one
@@ -62,7 +62,7 @@ pub record Did (stage : RunEntry) (entry : Entry) : Type 0 where
   pub done : stage.strand.done ≡ is_done entry.end
 
 -- The entries of the journal did this, this was noted of them, and these are the times of their nodes.
-pub record IsTold (rows : List TaskRow) (stages : List RunEntry) (journal : List Entry) (notes : Notes)
+pub record IsTold (rows : List TaskRow) (stages : List RunEntry) (journal : List Entry) (notes : EntryNotes)
     (heaviest : Heaviest) : Type 0 where
   pub entries : AllZip Did stages journal
   pub nodes : List Node

@@ -10,11 +10,11 @@ use Rattle.twe_program.specs.Program.{Program}
 use Rattle.twe_program.specs.WellFormed.{IsWellFormed}
 use Rattle.effect_check.proofs.Members.{contains-in, list_all-in}
 use Rattle.isolation_laws.specs.soundness.KeepsEffects.{KeepsEffects}
-use Rattle.twe_machine.specs.declared.state.State.{State}
-use Rattle.twe_machine.specs.declared.state.TaskRow.{TaskRow}
-use Rattle.twe_machine.specs.Runs.{IsReached}
-use Rattle.twe_machine.proofs.tasks.Filled.{reached_filled}
-use Rattle.twe_machine.proofs.standing.ReachedStands.{reached_stands}
+use Rattle.machine_state.specs.declared.state.State.{State}
+use Rattle.machine_state.specs.declared.state.TaskRow.{TaskRow}
+use Rattle.machine_state.specs.Runs.{IsReached}
+use Rattle.machine_state.proofs.tasks.Filled.{reached_filled}
+use Rattle.machine_state.proofs.standing.ReachedStands.{reached_stands}
 use Rattle.isolation_laws.specs.Admission.{ChildrenInside, EffectInside}
 use Rattle.isolation_laws.proofs.effects.Interference.{any-in, in-any}
 use Rattle.isolation_laws.proofs.journals.Journals.{reached_within}

@@ -8,16 +8,16 @@ use Rattle.twe_program.specs.WellFormed.{IsWellFormed}
 use Rattle.wait_graph.specs.declared.tasks.Link.{Link}
 use Rattle.wait_graph.specs.Link.{link_of}
 use Rattle.wait_graph.specs.Waiting.{SpawnedBy}
-use Rattle.twe_machine.specs.declared.state.State.{State}
-use Rattle.twe_machine.specs.declared.state.TaskRow.{TaskRow}
-use Rattle.twe_machine.specs.declared.state.TaskStatus.{TaskStatus}
-use Rattle.twe_machine.specs.declared.state.TaskStatus.TheVariants.{Made, Enabled, Done, Faulted}
-use Rattle.twe_machine.specs.Rows.{HasStatus, IsRow, row_awaited}
-use Rattle.twe_machine.specs.Runs.{IsReached}
-use Rattle.twe_machine.proofs.lists.Members.{contains_in}
-use Rattle.twe_machine.proofs.lists.Places.{below_there}
-use Rattle.twe_machine.proofs.standing.ReachedStands.{reached_stands}
-use Rattle.twe_machine.proofs.standing.Standing.{IsChild, IsOver, Stands}
+use Rattle.machine_state.specs.declared.state.State.{State}
+use Rattle.machine_state.specs.declared.state.TaskRow.{TaskRow}
+use Rattle.machine_state.specs.declared.state.TaskStatus.{TaskStatus}
+use Rattle.machine_state.specs.declared.state.TaskStatus.TheVariants.{Made, Enabled, Done, Faulted}
+use Rattle.machine_state.specs.Rows.{HasStatus, IsRow, row_awaited}
+use Rattle.machine_state.specs.Runs.{IsReached}
+use Rattle.machine_state.proofs.lists.Members.{contains_in}
+use Rattle.machine_state.proofs.lists.Places.{below_there}
+use Rattle.machine_state.proofs.standing.ReachedStands.{reached_stands}
+use Rattle.machine_state.proofs.standing.Standing.{IsChild, IsOver, Stands}
 use Rattle.isolation_laws.specs.Admission.{MadeTasksAreAlone, ParentsAreEnabledOrFaulted, WaitersAreEnabled}
 use Rattle.isolation_laws.proofs.journals.Invariant.{done_alone, parents_there}
 use Rattle.isolation_laws.proofs.rows.LinksOfRows.{link_not_there, link_there, spawned_row}

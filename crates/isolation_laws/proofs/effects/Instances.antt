@@ -13,7 +13,7 @@ use Rattle.effect_sets.specs.Interference.{Interferes, SomeInterfere, one_writes
 use Rattle.effect_sets.proofs.Accesses.{apart-under}
 use Rattle.effect_sets.proofs.Filling.{fill_effect-within}
 use Rattle.twe_program.specs.declared.program.Decl.{Decl}
-use Rattle.seg_exec.specs.Entry.{effects_of}
+use Rattle.seg_meaning.specs.Entry.{effects_of}
 use Rattle.effect_check.specs.Acts.{filled_summary}
 use Rattle.effect_check.proofs.Members.{IsIn}
 use Rattle.isolation_laws.proofs.soundness.Declared.{in-map, map-in}

@@ -13,27 +13,27 @@ use Rattle.twe_program.specs.Program.{Program}
 use Rattle.twe_program.specs.Statement.{Statement, Statements, Make, statement}
 use Rattle.cover_flow.specs.ControlPath.{Path}
 use Rattle.cover_flow.specs.Out.{MayBeOut, out_after}
-use Rattle.seg_exec.specs.declared.frame.Frame.{Frame}
-use Rattle.seg_exec.specs.declared.frame.Next.{Next}
-use Rattle.seg_exec.specs.declared.frame.Next.TheVariants.{Go}
-use Rattle.seg_exec.specs.declared.stop.Stop.TheVariants as ends
-use Rattle.seg_exec.specs.Entry.{effects_at}
-use Rattle.seg_exec.specs.Giving.{given}
-use Rattle.seg_exec.specs.Meaning.{body_of}
-use Rattle.seg_exec.specs.Segment.{segment}
+use Rattle.seg_meaning.specs.declared.frame.Frame.{Frame}
+use Rattle.seg_meaning.specs.declared.frame.Next.{Next}
+use Rattle.seg_meaning.specs.declared.frame.Next.TheVariants.{Go}
+use Rattle.seg_meaning.specs.declared.stop.Stop.TheVariants as ends
+use Rattle.seg_meaning.specs.Entry.{effects_at}
+use Rattle.seg_meaning.specs.Giving.{given}
+use Rattle.seg_meaning.specs.Meaning.{body_of}
+use Rattle.seg_meaning.specs.Segment.{segment}
 use Rattle.effect_check.specs.Acts.{acts_in_all, make}
 use Rattle.effect_check.proofs.Members.{IsIn, in-cases, in-contains}
 use Rattle.isolation_laws.specs.soundness.KeepsEffects.{KeepsEffects}
 use Rattle.isolation_laws.proofs.soundness.Sound.{got-in}
-use Rattle.twe_machine.specs.segment_laws.Left.{left_of}
-use Rattle.twe_machine.specs.segment_laws.Operations.{ComesToMake}
-use Rattle.twe_machine.specs.segment_laws.Ready.{IsDeclaredAs, IsReady, MakesDeclared, futures_at}
-use Rattle.twe_machine.proofs.segment_laws.BeingReady.{ready_declared, ready_given}
-use Rattle.twe_machine.proofs.segment_laws.Following.{makes_follow}
-use Rattle.twe_machine.specs.declared.state.State.{State}
-use Rattle.twe_machine.specs.declared.state.TaskRow.{TaskRow}
-use Rattle.twe_machine.specs.Moves.{making_frame, out_with}
-use Rattle.twe_machine.specs.Rows.{IsRow}
+use Rattle.machine_state.specs.segment_laws.Left.{left_of}
+use Rattle.machine_state.specs.segment_laws.Operations.{ComesToMake}
+use Rattle.machine_state.specs.segment_laws.Ready.{IsDeclaredAs, IsReady, MakesDeclared, futures_at}
+use Rattle.machine_state.proofs.segment_laws.BeingReady.{ready_declared, ready_given}
+use Rattle.machine_state.proofs.segment_laws.Following.{makes_follow}
+use Rattle.machine_state.specs.declared.state.State.{State}
+use Rattle.machine_state.specs.declared.state.TaskRow.{TaskRow}
+use Rattle.machine_state.specs.Moves.{making_frame, out_with}
+use Rattle.machine_state.specs.Rows.{IsRow}
 use Rattle.isolation_laws.proofs.soundness.Given.{given_decl}
 use Rattle.isolation_laws.proofs.frames.AfterSegment.{after, after_decl, after_futures, after_out, child_later, reached_at, still_out_at}
 use Rattle.isolation_laws.proofs.frames.Frames.{ChildOut, OnPath, given_futures, still_out}

@@ -6,17 +6,17 @@ use Rattle.twe_program.specs.Program.{Program}
 use Rattle.twe_program.specs.Statement.{Statement, Statements, statement}
 use Rattle.cover_flow.specs.ControlPath.{Path}
 use Rattle.cover_flow.specs.Out.{out_after}
-use Rattle.seg_exec.specs.declared.frame.Frame.{Frame}
-use Rattle.seg_exec.specs.Giving.{given, without}
-use Rattle.seg_exec.specs.Meaning.{body_of}
-use Rattle.seg_exec.specs.Segment.{segment}
+use Rattle.seg_meaning.specs.declared.frame.Frame.{Frame}
+use Rattle.seg_meaning.specs.Giving.{given, without}
+use Rattle.seg_meaning.specs.Meaning.{body_of}
+use Rattle.seg_meaning.specs.Segment.{segment}
 use Rattle.effect_check.proofs.Members.{IsIn}
-use Rattle.twe_machine.specs.segment_laws.Keeps.{SegmentKeeps}
-use Rattle.twe_machine.specs.segment_laws.Left.{left_of}
-use Rattle.twe_machine.specs.segment_laws.Passes.{Passes}
-use Rattle.twe_machine.proofs.segment_laws.Following.{given_left}
-use Rattle.twe_machine.proofs.segment_laws.SegmentKept.{segment_keeps}
-use Rattle.twe_machine.specs.declared.state.State.{State}
+use Rattle.machine_state.specs.segment_laws.Keeps.{SegmentKeeps}
+use Rattle.machine_state.specs.segment_laws.Left.{left_of}
+use Rattle.machine_state.specs.segment_laws.Passes.{Passes}
+use Rattle.machine_state.proofs.segment_laws.Following.{given_left}
+use Rattle.machine_state.proofs.segment_laws.SegmentKept.{segment_keeps}
+use Rattle.machine_state.specs.declared.state.State.{State}
 use Rattle.isolation_laws.proofs.soundness.Given.{given_decl}
 use Rattle.isolation_laws.proofs.frames.Frames.{ChildOut, OnPath, given_futures, given_out, still_out}
 use Rattle.isolation_laws.proofs.paths.FuturesOut.{Reached, out-quiet, reached_more}

@@ -6,19 +6,19 @@ use Rattle.twe_program.specs.Program.{Program}
 use Rattle.twe_program.specs.Statement.{Wait, statement}
 use Rattle.cover_flow.specs.ControlPath.{Path}
 use Rattle.cover_flow.specs.Out.{out_after}
-use Rattle.seg_exec.specs.declared.frame.Frame.{Frame}
-use Rattle.seg_exec.specs.declared.frame.Next.{Next}
-use Rattle.seg_exec.specs.declared.frame.Next.TheVariants.{Get, Join}
-use Rattle.seg_exec.specs.Giving.{given, without}
-use Rattle.seg_exec.specs.Meaning.{body_of}
-use Rattle.seg_exec.specs.Segment.{task_of}
+use Rattle.seg_meaning.specs.declared.frame.Frame.{Frame}
+use Rattle.seg_meaning.specs.declared.frame.Next.{Next}
+use Rattle.seg_meaning.specs.declared.frame.Next.TheVariants.{Get, Join}
+use Rattle.seg_meaning.specs.Giving.{given, without}
+use Rattle.seg_meaning.specs.Meaning.{body_of}
+use Rattle.seg_meaning.specs.Segment.{task_of}
 use Rattle.effect_check.proofs.Members.{IsIn}
-use Rattle.twe_machine.specs.segment_laws.Left.{left_of}
-use Rattle.twe_machine.specs.segment_laws.Operations.{ComesToWait}
-use Rattle.twe_machine.proofs.segment_laws.Following.{gets_follow, joins_follow}
-use Rattle.twe_machine.specs.declared.state.State.{State}
-use Rattle.twe_machine.specs.declared.state.TaskRow.{TaskRow}
-use Rattle.twe_machine.specs.Rows.{IsRow}
+use Rattle.machine_state.specs.segment_laws.Left.{left_of}
+use Rattle.machine_state.specs.segment_laws.Operations.{ComesToWait}
+use Rattle.machine_state.proofs.segment_laws.Following.{gets_follow, joins_follow}
+use Rattle.machine_state.specs.declared.state.State.{State}
+use Rattle.machine_state.specs.declared.state.TaskRow.{TaskRow}
+use Rattle.machine_state.specs.Rows.{IsRow}
 use Rattle.isolation_laws.proofs.rows.RowsLater.{Continues}
 use Rattle.isolation_laws.proofs.frames.Frames.{ChildOut, OnPath, given_futures, still_out}
 use Rattle.isolation_laws.proofs.paths.FuturesOut.{Reached, reached_more}

@@ -6,14 +6,14 @@ use Rattle.twe_program.specs.Program.{Program}
 use Rattle.twe_program.specs.Statement.{Statement, Statements, no_more, statement}
 use Rattle.cover_flow.specs.ControlPath.{Path}
 use Rattle.cover_flow.specs.Steps.{StepsFar}
-use Rattle.seg_exec.specs.declared.frame.Frame.{Frame}
-use Rattle.seg_exec.specs.declared.frame.Next.TheVariants.{Get, Join}
-use Rattle.seg_exec.specs.declared.stop.Stop.TheVariants as ends
-use Rattle.seg_exec.specs.Giving.{given}
-use Rattle.seg_exec.specs.Segment.{segment}
-use Rattle.twe_machine.specs.segment_laws.Left.{body_left, left_of}
-use Rattle.twe_machine.specs.segment_laws.Passes.{Passes}
-use Rattle.twe_machine.proofs.segment_laws.Following.{gets_follow, joins_follow, makes_follow}
+use Rattle.seg_meaning.specs.declared.frame.Frame.{Frame}
+use Rattle.seg_meaning.specs.declared.frame.Next.TheVariants.{Get, Join}
+use Rattle.seg_meaning.specs.declared.stop.Stop.TheVariants as ends
+use Rattle.seg_meaning.specs.Giving.{given}
+use Rattle.seg_meaning.specs.Segment.{segment}
+use Rattle.machine_state.specs.segment_laws.Left.{body_left, left_of}
+use Rattle.machine_state.specs.segment_laws.Passes.{Passes}
+use Rattle.machine_state.proofs.segment_laws.Following.{gets_follow, joins_follow, makes_follow}
 use Rattle.isolation_laws.proofs.frames.AfterSegment.{after}
 use Rattle.isolation_laws.proofs.frames.Frames.{given_none}
 

@@ -8,21 +8,21 @@ use Rattle.twe_program.specs.Expression.{Arguments}
 use Rattle.twe_program.specs.Program.{Program}
 use Rattle.cover_flow.specs.ControlPath.{Path}
 use Rattle.cover_flow.specs.Out.{out_after}
-use Rattle.seg_exec.specs.declared.frame.OpenBody.{OpenBody}
-use Rattle.seg_exec.specs.declared.frame.Frame.{Frame}
-use Rattle.seg_exec.specs.declared.frame.Next.{Next}
-use Rattle.seg_exec.specs.declared.frame.Next.TheVariants.{Go, Get, Join, Closing, Ended}
-use Rattle.seg_exec.specs.Entry.{effects_at}
-use Rattle.seg_exec.specs.Meaning.{body_of}
-use Rattle.seg_exec.specs.Giving.{body_with, given, given_by, without}
+use Rattle.seg_meaning.specs.declared.frame.OpenBody.{OpenBody}
+use Rattle.seg_meaning.specs.declared.frame.Frame.{Frame}
+use Rattle.seg_meaning.specs.declared.frame.Next.{Next}
+use Rattle.seg_meaning.specs.declared.frame.Next.TheVariants.{Go, Get, Join, Closing, Ended}
+use Rattle.seg_meaning.specs.Entry.{effects_at}
+use Rattle.seg_meaning.specs.Meaning.{body_of}
+use Rattle.seg_meaning.specs.Giving.{body_with, given, given_by, without}
 use Rattle.effect_check.specs.Acts.{acts_in_all, make}
 use Rattle.effect_check.proofs.Members.{IsIn}
-use Rattle.twe_machine.specs.segment_laws.Left.{left_of}
-use Rattle.twe_machine.specs.segment_laws.Operations.{AllMayHave}
-use Rattle.twe_machine.specs.segment_laws.Ready.{IsDeclaredAs, futures_at}
-use Rattle.twe_machine.specs.declared.state.State.{State}
-use Rattle.twe_machine.specs.declared.state.TaskRow.{TaskRow}
-use Rattle.twe_machine.specs.Rows.{IsRow}
+use Rattle.machine_state.specs.segment_laws.Left.{left_of}
+use Rattle.machine_state.specs.segment_laws.Operations.{AllMayHave}
+use Rattle.machine_state.specs.segment_laws.Ready.{IsDeclaredAs, futures_at}
+use Rattle.machine_state.specs.declared.state.State.{State}
+use Rattle.machine_state.specs.declared.state.TaskRow.{TaskRow}
+use Rattle.machine_state.specs.Rows.{IsRow}
 use Rattle.isolation_laws.proofs.paths.FuturesOut.{Reached}
 
 -- the children that are still out once the awaited value is taken

@@ -2,15 +2,15 @@
 use Rattle.std.proofs.Common.{◌≡◌, ◌≢◌, ◌⊎◌, ℕ, ℤ, List, Some, inl, inr, refl, sym, ap, ◌∙◌, subst}
 use Rattle.std.proofs.lemmas.Bool.{cases_eq}
 use Rattle.twe_program.specs.Program.{Program}
-use Rattle.seg_exec.specs.declared.frame.Frame.{Frame}
+use Rattle.seg_meaning.specs.declared.frame.Frame.{Frame}
 use Rattle.isolation_laws.specs.soundness.RunsWith.{RunsWith}
 use Rattle.wait_graph.specs.Waiting.{YieldsTo}
-use Rattle.twe_machine.specs.declared.state.State.{State}
-use Rattle.twe_machine.specs.declared.state.TaskRow.{TaskRow}
-use Rattle.twe_machine.specs.declared.state.TaskStatus.TheVariants.{Enabled}
-use Rattle.twe_machine.specs.Legal.{Interfere, Isolated, MayAdmit}
-use Rattle.twe_machine.specs.Moves.{admitted, admitted_row}
-use Rattle.twe_machine.specs.Rows.{HasStatus, IsRow}
+use Rattle.machine_state.specs.declared.state.State.{State}
+use Rattle.machine_state.specs.declared.state.TaskRow.{TaskRow}
+use Rattle.machine_state.specs.declared.state.TaskStatus.TheVariants.{Enabled}
+use Rattle.machine_state.specs.Legal.{Interfere, Isolated, MayAdmit}
+use Rattle.machine_state.specs.Moves.{admitted, admitted_row}
+use Rattle.machine_state.specs.Rows.{HasStatus, IsRow}
 use Rattle.isolation_laws.proofs.rows.RowsLater.{Became, Continues, became_itself, interfere_before, siblings_later, within_later}
 use Rattle.isolation_laws.proofs.frames.Frames.{OnPath}
 use Rattle.isolation_laws.proofs.rows.ListElements.{get_set}

@@ -3,15 +3,15 @@ use Rattle.std.proofs.Common.{◌≡◌, ℕ, ℤ, List, Option, None, Some, ref
 use Rattle.twe_base.specs.declared.place.Place.{Place}
 use Rattle.twe_base.specs.declared.fault.FaultKind.{FaultKind}
 use Rattle.twe_program.specs.Program.{Program}
-use Rattle.seg_exec.specs.declared.frame.Frame.{Frame}
+use Rattle.seg_meaning.specs.declared.frame.Frame.{Frame}
 use Rattle.isolation_laws.specs.soundness.RunsWith.{RunsWith}
 use Rattle.wait_graph.specs.Link.{with_done}
 use Rattle.wait_graph.specs.Waiting.{IsDone, SpawnedBy, WaitsForNobody}
-use Rattle.twe_machine.specs.declared.state.State.{State}
-use Rattle.twe_machine.specs.declared.state.TaskRow.{TaskRow}
-use Rattle.twe_machine.specs.declared.state.TaskStatus.TheVariants.{Done, Enabled, Faulted}
-use Rattle.twe_machine.specs.Moves.{state_after_asking, done_row, frame_without_prints, state_after_fault, faulted_row, state_after_finish, going_row, state_after_storing, state_after_join, stopped_frame}
-use Rattle.twe_machine.specs.Rows.{IsRow, LinksAgree, row_awaited}
+use Rattle.machine_state.specs.declared.state.State.{State}
+use Rattle.machine_state.specs.declared.state.TaskRow.{TaskRow}
+use Rattle.machine_state.specs.declared.state.TaskStatus.TheVariants.{Done, Enabled, Faulted}
+use Rattle.machine_state.specs.Moves.{state_after_asking, done_row, frame_without_prints, state_after_fault, faulted_row, state_after_finish, going_row, state_after_storing, state_after_join, stopped_frame}
+use Rattle.machine_state.specs.Rows.{IsRow, LinksAgree, row_awaited}
 use Rattle.isolation_laws.proofs.rows.RowsLater.{Became, Continues}
 use Rattle.isolation_laws.proofs.frames.Frames.{OnPath}
 use Rattle.isolation_laws.proofs.rows.FramePutBack.{continues_home, isolated_finished, isolated_home}

@@ -5,17 +5,17 @@ use Rattle.twe_base.specs.Limits.{Bounds}
 use Rattle.twe_program.specs.declared.program.Decl.{Decl}
 use Rattle.twe_program.specs.Fitting.{TakesArguments}
 use Rattle.twe_program.specs.Program.{Program}
-use Rattle.seg_exec.specs.declared.frame.Next.{Next}
-use Rattle.seg_exec.specs.declared.frame.Next.TheVariants.{Go, Get, Join, Closing, Ended}
+use Rattle.seg_meaning.specs.declared.frame.Next.{Next}
+use Rattle.seg_meaning.specs.declared.frame.Next.TheVariants.{Go, Get, Join, Closing, Ended}
 use Rattle.effect_check.proofs.Members.{IsIn, in-contains}
 use Rattle.isolation_laws.specs.soundness.RunsWith.{RunsWith}
 use Rattle.wait_graph.specs.Waiting.{SpawnedBy}
-use Rattle.twe_machine.specs.declared.state.State.{State}
-use Rattle.twe_machine.specs.declared.state.TaskRow.{TaskRow}
-use Rattle.twe_machine.specs.declared.state.TaskStatus.TheVariants.{Done}
-use Rattle.twe_machine.specs.Legal.{Isolated}
-use Rattle.twe_machine.specs.Rows.{IsRow}
-use Rattle.twe_machine.proofs.standing.Standing.{IsChild, Stands}
+use Rattle.machine_state.specs.declared.state.State.{State}
+use Rattle.machine_state.specs.declared.state.TaskRow.{TaskRow}
+use Rattle.machine_state.specs.declared.state.TaskStatus.TheVariants.{Done}
+use Rattle.machine_state.specs.Legal.{Isolated}
+use Rattle.machine_state.specs.Rows.{IsRow}
+use Rattle.machine_state.proofs.standing.Standing.{IsChild, Stands}
 use Rattle.isolation_laws.specs.Within.{SpawnedWithin}
 use Rattle.isolation_laws.proofs.rows.AddedTask.{ParentsAreThere}
 use Rattle.isolation_laws.proofs.frames.AfterSegment.{in_without}

@@ -10,19 +10,19 @@ use Rattle.twe_program.specs.declared.program.Decl.{Decl}
 use Rattle.twe_program.specs.Fitting.{TakesArguments}
 use Rattle.twe_program.specs.Program.{Program}
 use Rattle.twe_program.specs.WellFormed.{IsMain, IsWellFormed}
-use Rattle.seg_exec.specs.Entry.{effects_at, entry_frame}
+use Rattle.seg_meaning.specs.Entry.{effects_at, entry_frame}
 use Rattle.isolation_laws.specs.soundness.KeepsEffects.{KeepsEffects}
 use Rattle.isolation_laws.specs.soundness.RunsWith.{RunsWith}
 use Rattle.isolation_laws.proofs.soundness.Segments.{entry_runs}
-use Rattle.twe_machine.specs.declared.state.State.{State}
-use Rattle.twe_machine.specs.declared.state.TaskRow.{TaskRow}
-use Rattle.twe_machine.specs.declared.state.TaskStatus.TheVariants.{Enabled, Made}
-use Rattle.twe_machine.specs.Legal.{MayTake}
-use Rattle.twe_machine.specs.Moves.{admitted, move_result, new_row, ran, start_of, result_by_kind}
-use Rattle.twe_machine.specs.Rows.{HasStatus, IsRow}
-use Rattle.twe_machine.specs.Runs.{AlwaysIsolated, IsReached, Legal, LegalFrom, replayed, state_after}
-use Rattle.twe_machine.proofs.standing.ReachedStands.{reached_stands, start_stands, taken_stands}
-use Rattle.twe_machine.proofs.standing.Standing.{Stands}
+use Rattle.machine_state.specs.declared.state.State.{State}
+use Rattle.machine_state.specs.declared.state.TaskRow.{TaskRow}
+use Rattle.machine_state.specs.declared.state.TaskStatus.TheVariants.{Enabled, Made}
+use Rattle.machine_state.specs.Legal.{MayTake}
+use Rattle.machine_state.specs.Moves.{admitted, move_result, new_row, ran, start_of, result_by_kind}
+use Rattle.machine_state.specs.Rows.{HasStatus, IsRow}
+use Rattle.machine_state.specs.Runs.{AlwaysIsolated, IsReached, Legal, LegalFrom, replayed, state_after}
+use Rattle.machine_state.proofs.standing.ReachedStands.{reached_stands, start_stands, taken_stands}
+use Rattle.machine_state.proofs.standing.Standing.{Stands}
 use Rattle.isolation_laws.specs.Rows.{ChildrenApart}
 use Rattle.isolation_laws.specs.Within.{AlwaysWithin, SpawnedWithin}
 use Rattle.isolation_laws.proofs.journals.AdmissionKeeps.{admission_kept}

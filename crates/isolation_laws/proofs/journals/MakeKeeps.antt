@@ -10,22 +10,22 @@ use Rattle.effect_sets.specs.Covers.{EffectWithin}
 use Rattle.effect_sets.specs.Interference.{SomeInterfere}
 use Rattle.twe_program.specs.Program.{Program}
 use Rattle.twe_program.specs.WellFormed.{IsWellFormed}
-use Rattle.seg_exec.specs.declared.frame.Frame.{Frame}
-use Rattle.seg_exec.specs.Entry.{effects_at}
-use Rattle.seg_exec.specs.Giving.{given}
+use Rattle.seg_meaning.specs.declared.frame.Frame.{Frame}
+use Rattle.seg_meaning.specs.Entry.{effects_at}
+use Rattle.seg_meaning.specs.Giving.{given}
 use Rattle.wait_graph.specs.declared.tasks.Link.{Link}
 use Rattle.wait_graph.specs.Waiting.{IsDone, WaitsForNobody}
 use Rattle.effect_check.proofs.Members.{IsIn, contains-in, in-cases}
 use Rattle.isolation_laws.specs.soundness.KeepsEffects.{KeepsEffects}
 use Rattle.isolation_laws.proofs.soundness.Given.{given_decl, given_runs}
 use Rattle.isolation_laws.proofs.soundness.Segments.{segment_spawns}
-use Rattle.twe_machine.specs.declared.state.State.{State}
-use Rattle.twe_machine.specs.declared.state.TaskRow.{TaskRow}
-use Rattle.twe_machine.specs.declared.state.TaskStatus.TheVariants.{Enabled}
-use Rattle.twe_machine.specs.Legal.{Isolated}
-use Rattle.twe_machine.specs.Moves.{going_row, state_after_join, new_row, out_with, parent_of, status_at_start}
-use Rattle.twe_machine.specs.Rows.{HasStatus, IsRow, LinksAgree, row_awaited, link_of_row}
-use Rattle.twe_machine.proofs.standing.Standing.{Stands}
+use Rattle.machine_state.specs.declared.state.State.{State}
+use Rattle.machine_state.specs.declared.state.TaskRow.{TaskRow}
+use Rattle.machine_state.specs.declared.state.TaskStatus.TheVariants.{Enabled}
+use Rattle.machine_state.specs.Legal.{Isolated}
+use Rattle.machine_state.specs.Moves.{going_row, state_after_join, new_row, out_with, parent_of, status_at_start}
+use Rattle.machine_state.specs.Rows.{HasStatus, IsRow, LinksAgree, row_awaited, link_of_row}
+use Rattle.machine_state.proofs.standing.Standing.{Stands}
 use Rattle.isolation_laws.specs.Within.{EffectsWithin, SpawnedWithin}
 use Rattle.isolation_laws.proofs.rows.AddedTask.{ParentsAreThere, agree_before, before_length, isolated_made, siblings_made, with_row, within_made}
 use Rattle.isolation_laws.proofs.frames.AfterSegment.{after, after_out}

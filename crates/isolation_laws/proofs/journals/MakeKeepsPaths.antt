@@ -6,21 +6,21 @@ use Rattle.twe_base.specs.Limits.{Bounds}
 use Rattle.effect_sets.specs.declared.effects.Summary.{Summary}
 use Rattle.twe_program.specs.declared.program.Decl.{Decl}
 use Rattle.twe_program.specs.Program.{Program}
-use Rattle.seg_exec.specs.declared.frame.Frame.{Frame}
-use Rattle.seg_exec.specs.declared.stop.Stop.{Stop}
-use Rattle.seg_exec.specs.Entry.{entry_frame}
-use Rattle.seg_exec.specs.Giving.{given}
-use Rattle.seg_exec.specs.Meaning.{body_of}
+use Rattle.seg_meaning.specs.declared.frame.Frame.{Frame}
+use Rattle.seg_meaning.specs.declared.stop.Stop.{Stop}
+use Rattle.seg_meaning.specs.Entry.{entry_frame}
+use Rattle.seg_meaning.specs.Giving.{given}
+use Rattle.seg_meaning.specs.Meaning.{body_of}
 use Rattle.effect_check.proofs.Members.{IsIn}
 use Rattle.isolation_laws.specs.soundness.KeepsEffects.{KeepsEffects}
-use Rattle.twe_machine.specs.segment_laws.Keeps.{NextAfter}
-use Rattle.twe_machine.proofs.segment_laws.Following.{makes_follow}
-use Rattle.twe_machine.proofs.segment_laws.SegmentKept.{segment_keeps}
-use Rattle.twe_machine.specs.declared.state.State.{State}
-use Rattle.twe_machine.specs.declared.state.TaskRow.{TaskRow}
-use Rattle.twe_machine.specs.Moves.{going_row, new_row, parent_of}
-use Rattle.twe_machine.specs.Rows.{IsRow}
-use Rattle.twe_machine.proofs.standing.Standing.{Stands}
+use Rattle.machine_state.specs.segment_laws.Keeps.{NextAfter}
+use Rattle.machine_state.proofs.segment_laws.Following.{makes_follow}
+use Rattle.machine_state.proofs.segment_laws.SegmentKept.{segment_keeps}
+use Rattle.machine_state.specs.declared.state.State.{State}
+use Rattle.machine_state.specs.declared.state.TaskRow.{TaskRow}
+use Rattle.machine_state.specs.Moves.{going_row, new_row, parent_of}
+use Rattle.machine_state.specs.Rows.{IsRow}
+use Rattle.machine_state.proofs.standing.Standing.{Stands}
 use Rattle.isolation_laws.proofs.rows.AddedTask.{before_length, row_added, with_row}
 use Rattle.isolation_laws.proofs.frames.AfterSegment.{after}
 use Rattle.isolation_laws.proofs.rows.RowsLater.{Continues}

@@ -6,22 +6,22 @@ use Rattle.twe_base.specs.Limits.{Bounds}
 use Rattle.effect_sets.specs.declared.effects.Summary.{Summary}
 use Rattle.twe_program.specs.Program.{Program}
 use Rattle.twe_program.specs.WellFormed.{IsWellFormed}
-use Rattle.seg_exec.specs.declared.frame.Frame.{Frame}
-use Rattle.seg_exec.specs.declared.frame.Next.TheVariants.{Go}
-use Rattle.seg_exec.specs.declared.stop.Stop.{Stop}
-use Rattle.seg_exec.specs.declared.stop.Stop.TheVariants as ends
-use Rattle.seg_exec.specs.Giving.{given}
-use Rattle.seg_exec.specs.Segment.{segment}
+use Rattle.seg_meaning.specs.declared.frame.Frame.{Frame}
+use Rattle.seg_meaning.specs.declared.frame.Next.TheVariants.{Go}
+use Rattle.seg_meaning.specs.declared.stop.Stop.{Stop}
+use Rattle.seg_meaning.specs.declared.stop.Stop.TheVariants as ends
+use Rattle.seg_meaning.specs.Giving.{given}
+use Rattle.seg_meaning.specs.Segment.{segment}
 use Rattle.isolation_laws.specs.soundness.KeepsEffects.{KeepsEffects}
 use Rattle.isolation_laws.specs.soundness.RunsWith.{RunsWith}
 use Rattle.isolation_laws.proofs.soundness.Given.{given_runs}
 use Rattle.isolation_laws.proofs.soundness.Segments.{segment_later, segment_makes}
-use Rattle.twe_machine.specs.segment_laws.Keeps.{NextAfter}
-use Rattle.twe_machine.proofs.segment_laws.SegmentKept.{segment_keeps}
-use Rattle.twe_machine.specs.declared.state.State.{State}
-use Rattle.twe_machine.specs.declared.state.TaskRow.{TaskRow}
-use Rattle.twe_machine.specs.Moves.{frame_without_prints, going_row, state_after_storing, state_after_join, joined_rows, making_frame, new_row, parent_of}
-use Rattle.twe_machine.specs.Rows.{IsRow}
+use Rattle.machine_state.specs.segment_laws.Keeps.{NextAfter}
+use Rattle.machine_state.proofs.segment_laws.SegmentKept.{segment_keeps}
+use Rattle.machine_state.specs.declared.state.State.{State}
+use Rattle.machine_state.specs.declared.state.TaskRow.{TaskRow}
+use Rattle.machine_state.specs.Moves.{frame_without_prints, going_row, state_after_storing, state_after_join, joined_rows, making_frame, new_row, parent_of}
+use Rattle.machine_state.specs.Rows.{IsRow}
 use Rattle.isolation_laws.proofs.rows.AddedTask.{row_added, with_row}
 use Rattle.isolation_laws.proofs.frames.AfterSegment.{after}
 use Rattle.isolation_laws.proofs.rows.ListElements.{length_set}

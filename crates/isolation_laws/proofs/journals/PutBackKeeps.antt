@@ -2,13 +2,13 @@
 use Rattle.std.proofs.Common.{◌≡◌, ℕ, ℤ, List, Option, inl, inr, sym, ap, ◌∙◌, subst, None}
 use Rattle.effect_sets.specs.declared.effects.Summary.{Summary}
 use Rattle.twe_program.specs.Program.{Program}
-use Rattle.seg_exec.specs.declared.frame.Frame.{Frame}
+use Rattle.seg_meaning.specs.declared.frame.Frame.{Frame}
 use Rattle.isolation_laws.specs.soundness.RunsWith.{RunsWith}
-use Rattle.twe_machine.specs.declared.state.State.{State}
-use Rattle.twe_machine.specs.declared.state.TaskRow.{TaskRow}
-use Rattle.twe_machine.specs.Legal.{Isolated}
-use Rattle.twe_machine.specs.Moves.{state_after_storing, state_after_join}
-use Rattle.twe_machine.specs.Rows.{IsRow}
+use Rattle.machine_state.specs.declared.state.State.{State}
+use Rattle.machine_state.specs.declared.state.TaskRow.{TaskRow}
+use Rattle.machine_state.specs.Legal.{Isolated}
+use Rattle.machine_state.specs.Moves.{state_after_storing, state_after_join}
+use Rattle.machine_state.specs.Rows.{IsRow}
 use Rattle.isolation_laws.proofs.rows.RowsLater.{Became, Continues, siblings_later, within_later}
 use Rattle.isolation_laws.proofs.frames.Frames.{ChildOut, OnPath}
 use Rattle.isolation_laws.proofs.rows.FramePutBack.{continues_home, rows_home}

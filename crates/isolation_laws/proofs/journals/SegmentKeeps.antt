@@ -10,30 +10,30 @@ use Rattle.twe_base.specs.Limits.{Bounds}
 use Rattle.effect_sets.specs.declared.effects.Summary.{Summary}
 use Rattle.twe_program.specs.Program.{Program}
 use Rattle.twe_program.specs.WellFormed.{IsWellFormed}
-use Rattle.seg_exec.specs.declared.frame.Frame.{Frame}
-use Rattle.seg_exec.specs.declared.frame.Next.{Next}
-use Rattle.seg_exec.specs.declared.frame.Next.TheVariants.{Go, Get, Join, Closing, Ended}
-use Rattle.seg_exec.specs.declared.stop.Stop.{Stop}
-use Rattle.seg_exec.specs.declared.stop.Stop.TheVariants as ends
-use Rattle.seg_exec.specs.Giving.{without}
-use Rattle.seg_exec.specs.Segment.{segment}
+use Rattle.seg_meaning.specs.declared.frame.Frame.{Frame}
+use Rattle.seg_meaning.specs.declared.frame.Next.{Next}
+use Rattle.seg_meaning.specs.declared.frame.Next.TheVariants.{Go, Get, Join, Closing, Ended}
+use Rattle.seg_meaning.specs.declared.stop.Stop.{Stop}
+use Rattle.seg_meaning.specs.declared.stop.Stop.TheVariants as ends
+use Rattle.seg_meaning.specs.Giving.{without}
+use Rattle.seg_meaning.specs.Segment.{segment}
 use Rattle.effect_check.proofs.Members.{IsIn, in-contains}
 use Rattle.isolation_laws.specs.soundness.KeepsEffects.{KeepsEffects}
 use Rattle.isolation_laws.specs.soundness.RunsWith.{RunsWith}
 use Rattle.isolation_laws.proofs.soundness.Given.{given_runs}
 use Rattle.isolation_laws.proofs.soundness.Segments.{segment_later}
-use Rattle.twe_machine.specs.segment_laws.Keeps.{NextAfter, SegmentKeeps}
-use Rattle.twe_machine.proofs.segment_laws.SegmentKept.{segment_keeps}
+use Rattle.machine_state.specs.segment_laws.Keeps.{NextAfter, SegmentKeeps}
+use Rattle.machine_state.proofs.segment_laws.SegmentKept.{segment_keeps}
 use Rattle.wait_graph.specs.Link.{link_of}
 use Rattle.wait_graph.specs.Waiting.{IsDone}
-use Rattle.twe_machine.specs.declared.state.State.{State}
-use Rattle.twe_machine.specs.declared.state.TaskRow.{TaskRow}
-use Rattle.twe_machine.specs.declared.state.TaskStatus.TheVariants.{Enabled}
-use Rattle.twe_machine.specs.Legal.{MayRun}
-use Rattle.twe_machine.specs.Moves.{awaited_value, done_row, state_after_fault, state_after_asking, going_row, state_after_make, state_after_storing, state_after_join, joined_child, making_frame, ready_frame, stop_result, stopped_frame}
-use Rattle.twe_machine.specs.Rows.{IsRow, row_awaited}
-use Rattle.twe_machine.proofs.lists.Members.{EachOnce, contains_in, without_once, without_other}
-use Rattle.twe_machine.proofs.standing.Standing.{Stands}
+use Rattle.machine_state.specs.declared.state.State.{State}
+use Rattle.machine_state.specs.declared.state.TaskRow.{TaskRow}
+use Rattle.machine_state.specs.declared.state.TaskStatus.TheVariants.{Enabled}
+use Rattle.machine_state.specs.Legal.{MayRun}
+use Rattle.machine_state.specs.Moves.{awaited_value, done_row, state_after_fault, state_after_asking, going_row, state_after_make, state_after_storing, state_after_join, joined_child, making_frame, ready_frame, stop_result, stopped_frame}
+use Rattle.machine_state.specs.Rows.{IsRow, row_awaited}
+use Rattle.machine_state.proofs.lists.Members.{EachOnce, contains_in, without_once, without_other}
+use Rattle.machine_state.proofs.standing.Standing.{Stands}
 use Rattle.isolation_laws.proofs.frames.AfterSegment.{after, after_out}
 use Rattle.isolation_laws.proofs.rows.RowsLater.{Continues}
 use Rattle.isolation_laws.proofs.journals.EndsKeep.{kept_faulted, kept_finished, kept_going, kept_limited}

@@ -12,8 +12,8 @@ use Rattle.effect_check.specs.declared.act.Act.{Act}
 use Rattle.effect_check.specs.declared.act.ActKind.{ActKind}
 use Rattle.effect_check.specs.declared.act.ActKind.TheVariants as kinds
 use Rattle.effect_check.proofs.Members.{IsIn}
-use Rattle.twe_machine.specs.segment_laws.Passes.{Quietly}
-use Rattle.twe_machine.proofs.segment_laws.Quiet.{Leads, quietly_joined, stays}
+use Rattle.machine_state.specs.segment_laws.Passes.{Quietly}
+use Rattle.machine_state.proofs.segment_laws.Quiet.{Leads, quietly_joined, stays}
 use Rattle.isolation_laws.proofs.paths.OwnActs.{own_acts}
 use Rattle.isolation_laws.proofs.effects.Sparing.{EffectSpares}
 

@@ -6,7 +6,7 @@ use Rattle.cover_flow.specs.ControlPath.{ControlPath, Path, end_of, point_of}
 use Rattle.cover_flow.specs.Out.{MayBeOut, out_after, puts_out, takes_in}
 use Rattle.cover_flow.specs.Steps.{StepsFar}
 use Rattle.cover_flow.proofs.SteppingBack.{steps-back}
-use Rattle.twe_machine.specs.segment_laws.Passes.{IsOperation, NoOperations}
+use Rattle.machine_state.specs.segment_laws.Passes.{IsOperation, NoOperations}
 
 -- a statement that is no task operation puts no future out and takes none in
 no_put : (f : ℕ) (s : Statement) → ¬ IsOperation s → puts_out f s ≡ false

@@ -10,14 +10,14 @@ use Rattle.twe_program.specs.Expression.{Expression, Literal, Truth, Variable, C
 use Rattle.twe_program.specs.Expression as args
 use Rattle.twe_program.specs.Program.{Program}
 use Rattle.cover_flow.specs.Out.{MayBeOut}
-use Rattle.seg_exec.specs.Entry.{effects_at}
+use Rattle.seg_meaning.specs.Entry.{effects_at}
 use Rattle.effect_check.specs.declared.rule.ERule.TheVariants.{E3, E5}
 use Rattle.effect_check.specs.Acts.{acts_in_all, filled_summary, is_deterministic, make}
 use Rattle.effect_check.specs.FailsEffect.{spawned, spawned_again}
 use Rattle.effect_check.specs.Standing.{element_of_index, elements_of}
 use Rattle.effect_check.proofs.Members.{IsIn, in-contains}
 use Rattle.isolation_laws.specs.soundness.KeepsEffects.{KeepsEffects}
-use Rattle.twe_machine.specs.segment_laws.Operations.{AllMayHave, MayHave}
+use Rattle.machine_state.specs.segment_laws.Operations.{AllMayHave, MayHave}
 use Rattle.isolation_laws.proofs.effects.Instances.{AllStandAs, StandsAs, instances_apart}
 
 -- a written argument may stand for each value that it may have

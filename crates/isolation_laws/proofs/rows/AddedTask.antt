@@ -6,11 +6,11 @@ use Rattle.wait_graph.specs.Link.{new_link}
 use Rattle.wait_graph.specs.Waiting.{DescendsFrom, YieldsTo}
 use Rattle.wait_graph.proofs.ChainLemmas.{Chain-map}
 use Rattle.wait_graph.proofs.AddingLemmas.{SpawnedBy-added, WaitsOn-added}
-use Rattle.twe_machine.specs.declared.state.State.{State}
-use Rattle.twe_machine.specs.declared.state.TaskRow.{TaskRow}
-use Rattle.twe_machine.specs.declared.state.TaskStatus.TheVariants.{Enabled, Made}
-use Rattle.twe_machine.specs.Legal.{Isolated}
-use Rattle.twe_machine.specs.Rows.{HasStatus, IsRow, LinksAgree, link_of_row}
+use Rattle.machine_state.specs.declared.state.State.{State}
+use Rattle.machine_state.specs.declared.state.TaskRow.{TaskRow}
+use Rattle.machine_state.specs.declared.state.TaskStatus.TheVariants.{Enabled, Made}
+use Rattle.machine_state.specs.Legal.{Isolated}
+use Rattle.machine_state.specs.Rows.{HasStatus, IsRow, LinksAgree, link_of_row}
 use Rattle.isolation_laws.specs.Within.{SpawnedWithin}
 use Rattle.isolation_laws.proofs.rows.RowsLater.{SiblingsApart}
 use Rattle.isolation_laws.proofs.rows.ListElements.{get_added}

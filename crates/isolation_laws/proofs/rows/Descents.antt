@@ -2,9 +2,9 @@
 use Rattle.std.proofs.Common.{◌≢◌, ℕ, refl, subst}
 use Rattle.wait_graph.specs.Chain.{Chain, none, more}
 use Rattle.wait_graph.specs.Waiting.{DescendsFrom}
-use Rattle.twe_machine.specs.declared.state.State.{State}
-use Rattle.twe_machine.specs.declared.state.TaskRow.{TaskRow}
-use Rattle.twe_machine.specs.Rows.{IsRow, LinksAgree}
+use Rattle.machine_state.specs.declared.state.State.{State}
+use Rattle.machine_state.specs.declared.state.TaskRow.{TaskRow}
+use Rattle.machine_state.specs.Rows.{IsRow, LinksAgree}
 use Rattle.isolation_laws.specs.Within.{EffectsWithin, SpawnedWithin}
 use Rattle.isolation_laws.proofs.rows.ListElements.{one_there}
 use Rattle.isolation_laws.proofs.effects.Interference.{within_itself, within_more}

@@ -2,18 +2,18 @@
 use Rattle.std.proofs.Common.{◌≡◌, ◌≢◌, ◌⊎◌, ℕ, List, Option, None, Some, inl, inr, length, sym, ap, ◌∙◌, subst}
 use Rattle.std.proofs.Math.Seq.{set_out}
 use Rattle.std.proofs.lemmas.Bool.{cases_lt}
-use Rattle.seg_exec.specs.declared.frame.Frame.{Frame}
+use Rattle.seg_meaning.specs.declared.frame.Frame.{Frame}
 use Rattle.wait_graph.specs.declared.tasks.Link.{Link}
 use Rattle.wait_graph.specs.Waiting.{DescendsFrom, IsDone, SpawnedBy, WaitsFor, WaitsForNobody, YieldsTo}
 use Rattle.wait_graph.specs.Link.{link_of, with_done, with_wait}
 use Rattle.wait_graph.proofs.ChainLemmas.{Chain-arrives}
 use Rattle.wait_graph.proofs.SettingLemmas.{SpawnedBy-with_done, WaitsFor-with_wait_same, YieldsTo-with_done, YieldsTo-with_wait}
-use Rattle.twe_machine.specs.declared.state.State.{State}
-use Rattle.twe_machine.specs.declared.state.TaskRow.{TaskRow}
-use Rattle.twe_machine.specs.declared.state.TaskStatus.TheVariants.{Done, Enabled}
-use Rattle.twe_machine.specs.Legal.{Isolated}
-use Rattle.twe_machine.specs.Moves.{state_after_storing, state_after_join}
-use Rattle.twe_machine.specs.Rows.{HasStatus, IsRow, LinksAgree, row_awaited}
+use Rattle.machine_state.specs.declared.state.State.{State}
+use Rattle.machine_state.specs.declared.state.TaskRow.{TaskRow}
+use Rattle.machine_state.specs.declared.state.TaskStatus.TheVariants.{Done, Enabled}
+use Rattle.machine_state.specs.Legal.{Isolated}
+use Rattle.machine_state.specs.Moves.{state_after_storing, state_after_join}
+use Rattle.machine_state.specs.Rows.{HasStatus, IsRow, LinksAgree, row_awaited}
 use Rattle.isolation_laws.proofs.rows.RowsLater.{Became, Continues, EnabledBefore, isolated_later}
 use Rattle.isolation_laws.proofs.rows.ListElements.{get_set}
 use Rattle.isolation_laws.proofs.rows.JoinedChild.{DoneAreChildless, Untouched, untouches_joined, nobody_joined, yields_joined}

@@ -8,11 +8,11 @@ use Rattle.wait_graph.specs.Link.{link_of}
 use Rattle.wait_graph.proofs.ChainLemmas.{Chain-arrives}
 use Rattle.wait_graph.proofs.SettingLemmas.{WaitsFor-with_joined, YieldsTo-with_joined}
 use Rattle.wait_graph.proofs.WaitingLemmas.{WaitsForNobody-waits}
-use Rattle.twe_machine.specs.declared.state.State.{State}
-use Rattle.twe_machine.specs.declared.state.TaskRow.{TaskRow}
-use Rattle.twe_machine.specs.declared.state.TaskStatus.TheVariants.{Enabled}
-use Rattle.twe_machine.specs.Moves.{state_after_join, joined_child, joined_row, joined_rows}
-use Rattle.twe_machine.specs.Rows.{HasStatus, IsRow, LinksAgree}
+use Rattle.machine_state.specs.declared.state.State.{State}
+use Rattle.machine_state.specs.declared.state.TaskRow.{TaskRow}
+use Rattle.machine_state.specs.declared.state.TaskStatus.TheVariants.{Enabled}
+use Rattle.machine_state.specs.Moves.{state_after_join, joined_child, joined_row, joined_rows}
+use Rattle.machine_state.specs.Rows.{HasStatus, IsRow, LinksAgree}
 use Rattle.isolation_laws.proofs.rows.RowsLater.{Became, became_itself}
 use Rattle.isolation_laws.proofs.rows.ListElements.{get_set}
 use Rattle.isolation_laws.proofs.rows.LinksOfRows.{enabled_undone}

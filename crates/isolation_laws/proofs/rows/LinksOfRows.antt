@@ -6,11 +6,11 @@ use Rattle.std.proofs.lemmas.Option.{get_or_from_slice_get, slice_get-map}
 use Rattle.wait_graph.specs.declared.tasks.Link.{Link}
 use Rattle.wait_graph.specs.Link.{link_of, new_link}
 use Rattle.wait_graph.specs.Waiting.{IsDone, SpawnedBy}
-use Rattle.twe_machine.specs.declared.state.State.{State}
-use Rattle.twe_machine.specs.declared.state.TaskRow.{TaskRow}
-use Rattle.twe_machine.specs.declared.state.TaskStatus.{TaskStatus}
-use Rattle.twe_machine.specs.declared.state.TaskStatus.TheVariants.{Made, Enabled, Done, Faulted}
-use Rattle.twe_machine.specs.Rows.{HasStatus, IsRow, LinksAgree, is_done_status, link_of_row}
+use Rattle.machine_state.specs.declared.state.State.{State}
+use Rattle.machine_state.specs.declared.state.TaskRow.{TaskRow}
+use Rattle.machine_state.specs.declared.state.TaskStatus.{TaskStatus}
+use Rattle.machine_state.specs.declared.state.TaskStatus.TheVariants.{Made, Enabled, Done, Faulted}
+use Rattle.machine_state.specs.Rows.{HasStatus, IsRow, LinksAgree, is_done_status, link_of_row}
 
 none_there : (links : List Link) (s : ℕ) → slice_get links s ≡ None → link_of links s ≡ new_link None
 none_there [] s h = refl

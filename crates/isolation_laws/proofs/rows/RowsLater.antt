@@ -2,11 +2,11 @@
 use Rattle.std.proofs.Common.{◌≡◌, ◌≢◌, ℕ, false, Some, inl, inr, refl, sym, ◌∙◌, subst}
 use Rattle.effect_sets.specs.declared.effects.Summary.{Summary}
 use Rattle.effect_sets.specs.Interference.{SomeInterfere}
-use Rattle.twe_machine.specs.declared.state.State.{State}
-use Rattle.twe_machine.specs.declared.state.TaskRow.{TaskRow}
-use Rattle.twe_machine.specs.declared.state.TaskStatus.TheVariants.{Enabled}
-use Rattle.twe_machine.specs.Legal.{Interfere, Isolated}
-use Rattle.twe_machine.specs.Rows.{HasStatus, IsRow}
+use Rattle.machine_state.specs.declared.state.State.{State}
+use Rattle.machine_state.specs.declared.state.TaskRow.{TaskRow}
+use Rattle.machine_state.specs.declared.state.TaskStatus.TheVariants.{Enabled}
+use Rattle.machine_state.specs.Legal.{Interfere, Isolated}
+use Rattle.machine_state.specs.Rows.{HasStatus, IsRow}
 use Rattle.wait_graph.specs.Waiting.{YieldsTo}
 use Rattle.isolation_laws.specs.Within.{EffectsWithin, SpawnedWithin}
 

@@ -7,11 +7,11 @@ use Rattle.wait_graph.specs.Chain.{none, more}
 use Rattle.wait_graph.specs.Waiting.{DescendsFrom, SpawnedBy, WaitsForNobody, WaitsOn, YieldsTo}
 use Rattle.wait_graph.proofs.AddingLemmas.{SpawnedBy-added, WaitsOn-added}
 use Rattle.wait_graph.proofs.WaitingLemmas.{YieldsTo-alone}
-use Rattle.twe_machine.specs.declared.state.State.{State}
-use Rattle.twe_machine.specs.declared.state.TaskRow.{TaskRow}
-use Rattle.twe_machine.specs.declared.state.TaskStatus.TheVariants.{Enabled}
-use Rattle.twe_machine.specs.Legal.{Isolated}
-use Rattle.twe_machine.specs.Rows.{HasStatus, IsRow, LinksAgree}
+use Rattle.machine_state.specs.declared.state.State.{State}
+use Rattle.machine_state.specs.declared.state.TaskRow.{TaskRow}
+use Rattle.machine_state.specs.declared.state.TaskStatus.TheVariants.{Enabled}
+use Rattle.machine_state.specs.Legal.{Isolated}
+use Rattle.machine_state.specs.Rows.{HasStatus, IsRow, LinksAgree}
 use Rattle.isolation_laws.specs.Within.{EffectsWithin, SpawnedWithin}
 use Rattle.isolation_laws.proofs.rows.AddedTask.{ParentsAreThere, before_length, descends_added, row_added, with_row, yields_added}
 use Rattle.isolation_laws.proofs.rows.RowsLater.{SiblingsApart}

@@ -9,32 +9,32 @@ use Rattle.effect_sets.specs.Access.{SomeCoversAccess}
 use Rattle.twe_program.specs.declared.program.Decl.{Decl}
 use Rattle.twe_program.specs.Program.{Program}
 use Rattle.twe_program.specs.WellFormed.{IsWellFormed}
-use Rattle.seg_exec.specs.declared.frame.Next.{Next}
-use Rattle.seg_exec.specs.declared.frame.Next.TheVariants.{Go, Get, Join, Closing, Ended}
-use Rattle.seg_exec.specs.Access.{Access}
-use Rattle.seg_exec.specs.Entry.{effects_at}
-use Rattle.seg_exec.specs.Giving.{without}
-use Rattle.seg_exec.specs.Meaning.{body_of}
-use Rattle.seg_exec.specs.Segment.{segment}
+use Rattle.seg_meaning.specs.declared.frame.Next.{Next}
+use Rattle.seg_meaning.specs.declared.frame.Next.TheVariants.{Go, Get, Join, Closing, Ended}
+use Rattle.seg_meaning.specs.Access.{Access}
+use Rattle.seg_meaning.specs.Entry.{effects_at}
+use Rattle.seg_meaning.specs.Giving.{without}
+use Rattle.seg_meaning.specs.Meaning.{body_of}
+use Rattle.seg_meaning.specs.Segment.{segment}
 use Rattle.effect_check.proofs.Members.{IsIn, all-in, contains-in, in-contains}
 use Rattle.isolation_laws.specs.soundness.DeclaredNow.{access_of}
 use Rattle.isolation_laws.specs.soundness.KeepsEffects.{KeepsEffects}
 use Rattle.isolation_laws.proofs.soundness.Given.{given_decl, given_runs}
 use Rattle.isolation_laws.proofs.soundness.Segments.{segment_declared}
-use Rattle.twe_machine.specs.segment_laws.Left.{left_of}
-use Rattle.twe_machine.proofs.segment_laws.Following.{given_left}
+use Rattle.machine_state.specs.segment_laws.Left.{left_of}
+use Rattle.machine_state.proofs.segment_laws.Following.{given_left}
 use Rattle.wait_graph.specs.declared.tasks.Link.{Link}
 use Rattle.wait_graph.specs.Waiting.{SpawnedBy}
 use Rattle.wait_graph.proofs.WaitingLemmas.{WaitsForNobody-waits}
-use Rattle.twe_machine.specs.declared.state.State.{State}
-use Rattle.twe_machine.specs.declared.state.TaskRow.{TaskRow}
-use Rattle.twe_machine.specs.Legal.{MayRun}
-use Rattle.twe_machine.specs.Moves.{awaited_value, ready_frame}
-use Rattle.twe_machine.specs.Rows.{IsRow, row_awaited}
-use Rattle.twe_machine.specs.Runs.{IsReached, Legal}
-use Rattle.twe_machine.proofs.lists.Members.{contains_in, in_contains, in_without}
-use Rattle.twe_machine.proofs.standing.ReachedStands.{reached_stands}
-use Rattle.twe_machine.proofs.standing.Standing.{IsChild, Stands}
+use Rattle.machine_state.specs.declared.state.State.{State}
+use Rattle.machine_state.specs.declared.state.TaskRow.{TaskRow}
+use Rattle.machine_state.specs.Legal.{MayRun}
+use Rattle.machine_state.specs.Moves.{awaited_value, ready_frame}
+use Rattle.machine_state.specs.Rows.{IsRow, row_awaited}
+use Rattle.machine_state.specs.Runs.{IsReached, Legal}
+use Rattle.machine_state.proofs.lists.Members.{contains_in, in_contains, in_without}
+use Rattle.machine_state.proofs.standing.ReachedStands.{reached_stands}
+use Rattle.machine_state.proofs.standing.Standing.{IsChild, Stands}
 use Rattle.isolation_laws.specs.Conflicts.{AccessesAreCovered, AlwaysCovered, Makes}
 use Rattle.isolation_laws.specs.CoveredNow.{WillJoin, child_to_join}
 use Rattle.isolation_laws.specs.Rows.{RowsKeepToDeclarations}

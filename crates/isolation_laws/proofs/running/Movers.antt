@@ -9,20 +9,20 @@ use Rattle.effect_sets.specs.Interference.{SomeInterfere}
 use Rattle.effect_sets.proofs.Accesses.{access-conflicts, lists-apart, within-covers}
 use Rattle.twe_program.specs.Program.{Program}
 use Rattle.twe_program.specs.WellFormed.{IsWellFormed}
-use Rattle.seg_exec.specs.Access.{Access}
+use Rattle.seg_meaning.specs.Access.{Access}
 use Rattle.effect_check.proofs.Members.{in-contains}
 use Rattle.isolation_laws.specs.soundness.DeclaredNow.{access_of}
 use Rattle.isolation_laws.specs.soundness.KeepsEffects.{KeepsEffects}
 use Rattle.wait_graph.specs.Waiting.{DescendsFrom, IsDone}
 use Rattle.wait_graph.proofs.ChainLemmas.{Chain-arrives}
 use Rattle.wait_graph.proofs.WaitingLemmas.{YieldsTo-alone}
-use Rattle.twe_machine.specs.declared.state.State.{State}
-use Rattle.twe_machine.specs.declared.state.TaskRow.{TaskRow}
-use Rattle.twe_machine.specs.Legal.{MayRun}
-use Rattle.twe_machine.specs.Rows.{IsRow}
-use Rattle.twe_machine.specs.Runs.{IsReached}
-use Rattle.twe_machine.proofs.standing.ReachedStands.{reached_stands}
-use Rattle.twe_machine.proofs.standing.Standing.{Stands}
+use Rattle.machine_state.specs.declared.state.State.{State}
+use Rattle.machine_state.specs.declared.state.TaskRow.{TaskRow}
+use Rattle.machine_state.specs.Legal.{MayRun}
+use Rattle.machine_state.specs.Rows.{IsRow}
+use Rattle.machine_state.specs.Runs.{IsReached}
+use Rattle.machine_state.proofs.standing.ReachedStands.{reached_stands}
+use Rattle.machine_state.proofs.standing.Standing.{Stands}
 use Rattle.isolation_laws.specs.Conflicts.{Makes, MoversApart}
 use Rattle.isolation_laws.proofs.running.Covered.{declared, spared}
 use Rattle.isolation_laws.proofs.rows.Descents.{last_step, within_along}

@@ -19,8 +19,8 @@ use Rattle.twe_program.specs.Program.{Program, size_of}
 use Rattle.twe_program.specs.Numbering.{CellsCountUp}
 use Rattle.twe_program.specs.Fitting.{HasShape, TakesIndexes}
 use Rattle.twe_program.specs.WellFormed.{IsWellFormed, CellFits, CellElementFits}
-use Rattle.seg_exec.specs.Cells.{in_row, in_grid, at_column, index_below, cell_number, element_of, grid_element_of, first_of}
-use Rattle.seg_exec.proofs.CellNumbers.{grid_within}
+use Rattle.seg_meaning.specs.Cells.{in_row, in_grid, at_column, index_below, cell_number, element_of, grid_element_of, first_of}
+use Rattle.seg_meaning.proofs.CellNumbers.{grid_within}
 use Rattle.effect_check.specs.Standing.{path_at, elements_from}
 use Rattle.isolation_laws.specs.soundness.CellPaths.{concrete, indexes_at, path_within, path_among, path_of_cell}
 

@@ -17,7 +17,7 @@ use Rattle.effect_sets.proofs.Accesses.{within-covers, covers-under}
 use Rattle.effect_sets.proofs.Filling.{fill_effect-literals, fill_effect-within}
 use Rattle.twe_program.specs.WellFormed.{ElementFits, PathFits, SummaryFits}
 use Rattle.effect_check.proofs.Members.{IsIn, in-contains, list_any-in, all-in}
-use Rattle.seg_exec.specs.Access.{value_in}
+use Rattle.seg_meaning.specs.Access.{value_in}
 
 pub in-map : {X Y : Type 0} (f : X → Y) (xs : List X) (x : X) → IsIn x xs → IsIn (f x) (map f xs)
 in-map f [] x h = absurd h

@@ -1,5 +1,5 @@
 -- Expressions access only what their declaration declares, and leave its variables as they are.
-use Rattle.seg_exec.specs.Entry.{effects_at}
+use Rattle.seg_meaning.specs.Entry.{effects_at}
 use Rattle.effect_sets.specs.declared.effects.Summary.{Summary}
 use Rattle.std.proofs.Common.{◌≡◌, ℕ, zero, suc, ℤ, Bool, true, false, IsTrue, List, [], ◌∷◌, length, take, Option, None, Some, refl, sym, ap, subst, arith, Contains}
 use Rattle.std.specs.Prelude.{nat_le, slice_get}
@@ -26,16 +26,16 @@ use Rattle.twe_program.specs.Expression as exprs
 use Rattle.twe_program.specs.Statement.{Statement, Block}
 use Rattle.twe_program.specs.Fitting.{TakesArguments, count_of, ExpressionFits, ArgumentsFit}
 use Rattle.twe_program.specs.WellFormed.{IsWellFormed, SummaryFits, scope_of}
-use Rattle.seg_exec.specs.declared.operation.Operation.{Operation}
-use Rattle.seg_exec.specs.declared.operation.Operation.TheVariants as operations
-use Rattle.seg_exec.specs.declared.active.ActiveCall.{ActiveCall}
-use Rattle.seg_exec.specs.Access.{Access, value_in}
-use Rattle.seg_exec.specs.Arithmetic.{is_true, operated, decided}
-use Rattle.seg_exec.specs.Cells.{element_number, grid_element_number}
-use Rattle.seg_exec.specs.Store.{Store, Given, gives, faults, Flow, goes, returns, fails, stops, then_give, unit_of, unit_taken}
-use Rattle.seg_exec.specs.declared.fault.FaultCause.{FaultCause}
-use Rattle.seg_exec.specs.declared.fault.FaultCause.TheVariants.{Index, GridIndex}
-use Rattle.seg_exec.specs.Meaning.{Below, element_read, value_or_fault, right_given, vars_at_start, given_back, entered, called, value_of, values_of}
+use Rattle.seg_meaning.specs.declared.operation.Operation.{Operation}
+use Rattle.seg_meaning.specs.declared.operation.Operation.TheVariants as operations
+use Rattle.seg_meaning.specs.declared.active.ActiveCall.{ActiveCall}
+use Rattle.seg_meaning.specs.Access.{Access, value_in}
+use Rattle.seg_meaning.specs.Arithmetic.{is_true, operated, decided}
+use Rattle.seg_meaning.specs.Cells.{element_number, grid_element_number}
+use Rattle.seg_meaning.specs.Store.{Store, Given, gives, faults, Flow, goes, returns, fails, stops, then_give, unit_of, unit_taken}
+use Rattle.seg_meaning.specs.declared.fault.FaultCause.{FaultCause}
+use Rattle.seg_meaning.specs.declared.fault.FaultCause.TheVariants.{Index, GridIndex}
+use Rattle.seg_meaning.specs.Meaning.{Below, element_read, value_or_fault, right_given, vars_at_start, given_back, entered, called, value_of, values_of}
 use Rattle.effect_check.specs.Acts.{acts_of, acts_of_all, filled_summary}
 use Rattle.effect_check.specs.Standing.{element_of_index, elements_of, path_at}
 use Rattle.effect_check.proofs.Members.{IsIn}

@@ -6,10 +6,10 @@ use Rattle.twe_program.specs.declared.program.Decl.{Decl}
 use Rattle.twe_program.specs.Program.{Program}
 use Rattle.twe_program.specs.Statement.{Statement, Block, Let, Set, SetCell, SetArray, SetGrid, If, While, Return, Print, Call, Make, Wait, Statements, no_more, statement, Arms, arm, otherwise, no_else}
 use Rattle.twe_program.specs.WellFormed.{IsWellFormed}
-use Rattle.seg_exec.specs.declared.frame.Position.{Position}
-use Rattle.seg_exec.specs.Meaning.{Below, stopped_at}
-use Rattle.seg_exec.specs.Remaining.{after_first, last_of_first, branch_of, block_of, block_at, turned_again, resumed}
-use Rattle.seg_exec.specs.Store.{Store, Flow}
+use Rattle.seg_meaning.specs.declared.frame.Position.{Position}
+use Rattle.seg_meaning.specs.Meaning.{Below, stopped_at}
+use Rattle.seg_meaning.specs.Remaining.{after_first, last_of_first, branch_of, block_of, block_at, turned_again, resumed}
+use Rattle.seg_meaning.specs.Store.{Store, Flow}
 use Rattle.effect_check.specs.Acts.{acts_of, acts_in, acts_in_all, acts_in_one}
 use Rattle.isolation_laws.proofs.soundness.Sound.{Sound, Fine, AllFine, ArmsFine, declared_front, declared_back}
 use Rattle.isolation_laws.proofs.soundness.Expressions.{Kept, FlowKeeps, DeclaredIn, BelowKeeps}

@@ -1,7 +1,7 @@
 -- A segment accesses only what its task declares, and leaves the arguments as they are.
 use Rattle.isolation_laws.proofs.soundness.Declared.{SomeWithin, within_itself}
-use Rattle.seg_exec.specs.declared.stop.Stop.{Stop}
-use Rattle.seg_exec.specs.declared.stop.Stop.TheVariants as ends
+use Rattle.seg_meaning.specs.declared.stop.Stop.{Stop}
+use Rattle.seg_meaning.specs.declared.stop.Stop.TheVariants as ends
 use Rattle.effect_sets.specs.Covers.{EffectWithin}
 use Rattle.effect_sets.specs.declared.effects.Summary.{Summary}
 use Rattle.twe_base.specs.declared.place.Place.{Place}
@@ -21,17 +21,17 @@ use Rattle.twe_program.specs.declared.program.Decl.{Decl}
 use Rattle.twe_program.specs.Program.{Program}
 use Rattle.twe_program.specs.Fitting.{TakesArguments}
 use Rattle.twe_program.specs.WellFormed.{IsWellFormed, IsMain, DeclFits, PathFits, ElementFits}
-use Rattle.seg_exec.specs.declared.frame.OpenBody.{OpenBody}
-use Rattle.seg_exec.specs.declared.frame.Frame.{Frame}
-use Rattle.seg_exec.specs.declared.frame.Next.{Next}
-use Rattle.seg_exec.specs.declared.frame.Next.TheVariants as nexts
-use Rattle.seg_exec.specs.declared.operation.Operation.{Operation}
-use Rattle.seg_exec.specs.declared.operation.Operation.TheVariants as operations
-use Rattle.seg_exec.specs.Access.{Access}
-use Rattle.seg_exec.specs.Entry.{effects_of, effects_at, entry_frame}
-use Rattle.seg_exec.specs.Meaning.{body_of, done_within}
-use Rattle.seg_exec.specs.Segment.{Stopped, closing, waiting, operation_next, stopped_by, store_at, flow_of, segment, task_of, closing_stop, waiting_stop, operation_stop}
-use Rattle.seg_exec.specs.Store.{Store, Flow, goes, returns, fails, stops}
+use Rattle.seg_meaning.specs.declared.frame.OpenBody.{OpenBody}
+use Rattle.seg_meaning.specs.declared.frame.Frame.{Frame}
+use Rattle.seg_meaning.specs.declared.frame.Next.{Next}
+use Rattle.seg_meaning.specs.declared.frame.Next.TheVariants as nexts
+use Rattle.seg_meaning.specs.declared.operation.Operation.{Operation}
+use Rattle.seg_meaning.specs.declared.operation.Operation.TheVariants as operations
+use Rattle.seg_meaning.specs.Access.{Access}
+use Rattle.seg_meaning.specs.Entry.{effects_of, effects_at, entry_frame}
+use Rattle.seg_meaning.specs.Meaning.{body_of, done_within}
+use Rattle.seg_meaning.specs.Segment.{Stopped, closing, waiting, operation_next, stopped_by, store_at, flow_of, segment, task_of, closing_stop, waiting_stop, operation_stop}
+use Rattle.seg_meaning.specs.Store.{Store, Flow, goes, returns, fails, stops}
 use Rattle.effect_check.proofs.Members.{contains-in, all-in, IsIn, in-contains}
 use Rattle.isolation_laws.specs.soundness.DeclaredNow.{DeclaredNow, access_of}
 use Rattle.isolation_laws.specs.soundness.KeepsEffects.{KeepsEffects}

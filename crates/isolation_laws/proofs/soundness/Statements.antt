@@ -1,6 +1,6 @@
 -- Statements access only what their declaration declares, and leave its parameters as they are.
 use Rattle.effect_check.proofs.Members.{IsIn}
-use Rattle.seg_exec.specs.Entry.{effects_of}
+use Rattle.seg_meaning.specs.Entry.{effects_of}
 use Rattle.region_paths.specs.Arguments.{ArgumentsStand}
 use Rattle.region_paths.specs.declared.elements.Elem.{Elem}
 use Rattle.std.proofs.Common.{◌≡◌, ℕ, zero, suc, ◌+◌, ◌≤◌, ℤ, Bool, true, false, IsTrue, List, [], ◌∷◌, ◌++◌, length, take, Option, None, Some, refl, sym, ap, ◌∙◌, subst, arith, Contains}
@@ -19,12 +19,12 @@ use Rattle.twe_program.specs.Expression.{Expression, Arguments}
 use Rattle.twe_program.specs.Statement.{Statement, Block, Let, Set, SetCell, SetArray, SetGrid, If, While, Return, Print, Call, Make, Wait, Statements, no_more, statement, Arms, arm, otherwise, no_else}
 use Rattle.twe_program.specs.Fitting.{TakesArguments, ExpressionFits, ArgumentsFit}
 use Rattle.twe_program.specs.WellFormed.{IsWellFormed, scope_of}
-use Rattle.seg_exec.specs.Arithmetic.{is_true}
-use Rattle.seg_exec.specs.Cells.{element_number, grid_element_number}
-use Rattle.seg_exec.specs.Store.{Store, Given, gives, faults, Flow, goes, returns, fails, stops, then_do, then_go, unit_taken, with_var}
-use Rattle.seg_exec.specs.declared.fault.FaultCause.{FaultCause}
-use Rattle.seg_exec.specs.declared.fault.FaultCause.TheVariants.{Index, GridIndex}
-use Rattle.seg_exec.specs.Meaning.{Below, element_written, value_of, values_of, called, turned, chosen, stopped_at, done_by, done_all, done_arms, done_within}
+use Rattle.seg_meaning.specs.Arithmetic.{is_true}
+use Rattle.seg_meaning.specs.Cells.{element_number, grid_element_number}
+use Rattle.seg_meaning.specs.Store.{Store, Given, gives, faults, Flow, goes, returns, fails, stops, then_do, then_go, unit_taken, with_var}
+use Rattle.seg_meaning.specs.declared.fault.FaultCause.{FaultCause}
+use Rattle.seg_meaning.specs.declared.fault.FaultCause.TheVariants.{Index, GridIndex}
+use Rattle.seg_meaning.specs.Meaning.{Below, element_written, value_of, values_of, called, turned, chosen, stopped_at, done_by, done_all, done_arms, done_within}
 use Rattle.effect_check.specs.Acts.{acts_of, acts_of_all, acts_in, acts_in_all, acts_in_one, filled_summary}
 use Rattle.effect_check.specs.Standing.{element_of_index, elements_of, path_at, console_element}
 use Rattle.isolation_laws.specs.soundness.CellPaths.{path_of_cell}

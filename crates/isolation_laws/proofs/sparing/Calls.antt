@@ -17,10 +17,10 @@ use Rattle.twe_program.specs.Fitting.{TakesArguments}
 use Rattle.twe_program.specs.Program.{Program}
 use Rattle.twe_program.specs.Statement.{Block}
 use Rattle.twe_program.specs.WellFormed.{IsWellFormed}
-use Rattle.seg_exec.specs.declared.active.ActiveCall.{ActiveCall}
-use Rattle.seg_exec.specs.Access.{Access}
-use Rattle.seg_exec.specs.Meaning.{Below, called, entered, given_back, vars_at_start}
-use Rattle.seg_exec.specs.Store.{Store, Given, gives, faults, Flow, goes, returns, fails, stops, then_give, unit_of, unit_taken}
+use Rattle.seg_meaning.specs.declared.active.ActiveCall.{ActiveCall}
+use Rattle.seg_meaning.specs.Access.{Access}
+use Rattle.seg_meaning.specs.Meaning.{Below, called, entered, given_back, vars_at_start}
+use Rattle.seg_meaning.specs.Store.{Store, Given, gives, faults, Flow, goes, returns, fails, stops, then_give, unit_of, unit_taken}
 use Rattle.effect_check.specs.Acts.{filled_summary}
 use Rattle.effect_check.proofs.Members.{IsIn, all-in, in-cases, in-left, in-right}
 use Rattle.isolation_laws.specs.soundness.DeclaredNow.{access_of}

@@ -10,8 +10,8 @@ use Rattle.twe_program.specs.WellFormed.{IsWellFormed, scope_of}
 use Rattle.twe_program.specs.Statement.{Statement, Statements, statement}
 use Rattle.cover_flow.specs.ControlPath.{Path, point_of}
 use Rattle.cover_flow.specs.Out.{MayBeOut, out_after}
-use Rattle.seg_exec.specs.Giving.{given}
-use Rattle.seg_exec.specs.Meaning.{body_of}
+use Rattle.seg_meaning.specs.Giving.{given}
+use Rattle.seg_meaning.specs.Meaning.{body_of}
 use Rattle.effect_check.specs.declared.act.Act.{Act}
 use Rattle.effect_check.specs.declared.act.ActKind.{ActKind}
 use Rattle.effect_check.specs.declared.act.ActKind.TheVariants as kinds
@@ -23,7 +23,7 @@ use Rattle.effect_check.specs.Standing.{elements_of}
 use Rattle.effect_check.proofs.Members.{IsIn, all-in, in-contains, in-left}
 use Rattle.isolation_laws.specs.soundness.KeepsEffects.{KeepsEffects}
 use Rattle.isolation_laws.proofs.soundness.Sound.{got-in, task_sound}
-use Rattle.twe_machine.specs.segment_laws.Passes.{Quietly}
+use Rattle.machine_state.specs.segment_laws.Passes.{Quietly}
 use Rattle.isolation_laws.proofs.sparing.Calls.{all_from_in}
 use Rattle.isolation_laws.proofs.paths.FineRests.{ActSpares, AllSpare, Fine, fit_far}
 use Rattle.isolation_laws.proofs.frames.Frames.{ChildOut}

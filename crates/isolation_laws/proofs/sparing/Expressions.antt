@@ -15,13 +15,13 @@ use Rattle.twe_program.specs.Expression as exprs
 use Rattle.twe_program.specs.Fitting.{ArgumentsFit, ExpressionFits, TakesArguments}
 use Rattle.twe_program.specs.Program.{Program}
 use Rattle.twe_program.specs.WellFormed.{IsWellFormed, scope_of}
-use Rattle.seg_exec.specs.Access.{value_in}
-use Rattle.seg_exec.specs.Arithmetic.{decided, is_true, operated}
-use Rattle.seg_exec.specs.Cells.{element_number, grid_element_number}
-use Rattle.seg_exec.specs.declared.fault.FaultCause.{FaultCause}
-use Rattle.seg_exec.specs.declared.fault.FaultCause.TheVariants.{Index, GridIndex}
-use Rattle.seg_exec.specs.Meaning.{Below, element_read, right_given, value_of, value_or_fault, values_of}
-use Rattle.seg_exec.specs.Store.{Store, Given}
+use Rattle.seg_meaning.specs.Access.{value_in}
+use Rattle.seg_meaning.specs.Arithmetic.{decided, is_true, operated}
+use Rattle.seg_meaning.specs.Cells.{element_number, grid_element_number}
+use Rattle.seg_meaning.specs.declared.fault.FaultCause.{FaultCause}
+use Rattle.seg_meaning.specs.declared.fault.FaultCause.TheVariants.{Index, GridIndex}
+use Rattle.seg_meaning.specs.Meaning.{Below, element_read, right_given, value_of, value_or_fault, values_of}
+use Rattle.seg_meaning.specs.Store.{Store, Given}
 use Rattle.effect_check.specs.declared.act.Act.{Act}
 use Rattle.effect_check.specs.Acts.{acts_of, acts_of_all}
 use Rattle.effect_check.specs.Standing.{element_of_index, elements_of, path_at}

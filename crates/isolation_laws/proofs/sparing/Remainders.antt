@@ -7,21 +7,21 @@ use Rattle.twe_program.specs.Program.{Program}
 use Rattle.twe_program.specs.Statement.{Statement, Block, Let, Set, SetCell, SetArray, SetGrid, If, While, Return, Print, Call, Make, Wait, Statements, no_more, statement}
 use Rattle.twe_program.specs.WellFormed.{IsWellFormed}
 use Rattle.cover_flow.specs.Steps.{followed_by}
-use Rattle.seg_exec.specs.declared.frame.OpenBody.{OpenBody}
-use Rattle.seg_exec.specs.declared.frame.Frame.{Frame}
-use Rattle.seg_exec.specs.declared.frame.Position.{Position}
-use Rattle.seg_exec.specs.Meaning.{Below, body_of, done_within}
-use Rattle.seg_exec.specs.Remaining.{after_first, block_at, block_of, last_of_first, resumed, turned_again}
-use Rattle.seg_exec.specs.Segment.{flow_of, segment, stopped_by, store_at}
-use Rattle.seg_exec.specs.Store.{Store, Flow, goes, returns, fails, stops}
+use Rattle.seg_meaning.specs.declared.frame.OpenBody.{OpenBody}
+use Rattle.seg_meaning.specs.declared.frame.Frame.{Frame}
+use Rattle.seg_meaning.specs.declared.frame.Position.{Position}
+use Rattle.seg_meaning.specs.Meaning.{Below, body_of, done_within}
+use Rattle.seg_meaning.specs.Remaining.{after_first, block_at, block_of, last_of_first, resumed, turned_again}
+use Rattle.seg_meaning.specs.Segment.{flow_of, segment, stopped_by, store_at}
+use Rattle.seg_meaning.specs.Store.{Store, Flow, goes, returns, fails, stops}
 use Rattle.isolation_laws.specs.soundness.KeepsEffects.{KeepsEffects}
 use Rattle.isolation_laws.proofs.soundness.Expressions.{BelowKeeps}
 use Rattle.isolation_laws.proofs.soundness.Sound.{method_sound}
 use Rattle.isolation_laws.proofs.soundness.Statements.{within_keeps}
-use Rattle.twe_machine.specs.segment_laws.Left.{again, body_left, left_in, left_of}
-use Rattle.twe_machine.proofs.segment_laws.Leading.{BelowLeads, left_after}
-use Rattle.twe_machine.proofs.segment_laws.LeftLeading.{inside_leads, resumed_leads, within_leads}
-use Rattle.twe_machine.proofs.segment_laws.Quiet.{followed_assoc, followed_none}
+use Rattle.machine_state.specs.segment_laws.Left.{again, body_left, left_in, left_of}
+use Rattle.machine_state.proofs.segment_laws.Leading.{BelowLeads, left_after}
+use Rattle.machine_state.proofs.segment_laws.LeftLeading.{inside_leads, resumed_leads, within_leads}
+use Rattle.machine_state.proofs.segment_laws.Quiet.{followed_assoc, followed_none}
 use Rattle.isolation_laws.proofs.sparing.Calls.{EachSpares}
 use Rattle.isolation_laws.proofs.sparing.Statements.{BelowSpares, FlowSpares, IsFine, all_spare, done_spares, go_further, go_stopped}
 

@@ -13,13 +13,13 @@ use Rattle.twe_program.specs.Program.{Program}
 use Rattle.twe_program.specs.Statement.{Statement, Block, Let, Set, SetCell, SetArray, SetGrid, If, While, Return, Print, Call, Make, Wait, Statements, no_more, statement, Arms, arm, otherwise, no_else}
 use Rattle.twe_program.specs.WellFormed.{IsWellFormed, scope_of}
 use Rattle.cover_flow.specs.Steps.{IsBranch, followed_by}
-use Rattle.seg_exec.specs.declared.frame.Position.{Position}
-use Rattle.seg_exec.specs.Arithmetic.{is_true}
-use Rattle.seg_exec.specs.Cells.{element_number, grid_element_number}
-use Rattle.seg_exec.specs.declared.fault.FaultCause.{FaultCause}
-use Rattle.seg_exec.specs.declared.fault.FaultCause.TheVariants.{Index, GridIndex}
-use Rattle.seg_exec.specs.Meaning.{Below, called, chosen, done_all, done_arms, done_by, element_written, stopped_at, turned, value_of, values_of}
-use Rattle.seg_exec.specs.Store.{Store, Given, gives, faults, Flow, goes, returns, fails, stops, then_do, then_go, unit_taken}
+use Rattle.seg_meaning.specs.declared.frame.Position.{Position}
+use Rattle.seg_meaning.specs.Arithmetic.{is_true}
+use Rattle.seg_meaning.specs.Cells.{element_number, grid_element_number}
+use Rattle.seg_meaning.specs.declared.fault.FaultCause.{FaultCause}
+use Rattle.seg_meaning.specs.declared.fault.FaultCause.TheVariants.{Index, GridIndex}
+use Rattle.seg_meaning.specs.Meaning.{Below, called, chosen, done_all, done_arms, done_by, element_written, stopped_at, turned, value_of, values_of}
+use Rattle.seg_meaning.specs.Store.{Store, Given, gives, faults, Flow, goes, returns, fails, stops, then_do, then_go, unit_taken}
 use Rattle.effect_check.specs.Acts.{acts_of, acts_of_all}
 use Rattle.effect_check.specs.Standing.{console_element, element_of_index, elements_of, path_at}
 use Rattle.isolation_laws.specs.soundness.CellPaths.{path_of_cell}
@@ -27,8 +27,8 @@ use Rattle.isolation_laws.specs.soundness.KeepsEffects.{KeepsEffects}
 use Rattle.isolation_laws.proofs.soundness.CellPaths.{AtSome, cell_touched, element_touched, grid_element_touched}
 use Rattle.isolation_laws.proofs.soundness.Declared.{values_now}
 use Rattle.isolation_laws.proofs.soundness.Expressions.{AnyValue, BelowKeeps, StandFor, StandsFor}
-use Rattle.twe_machine.proofs.segment_laws.Leading.{BelowLeads, FlowLeads, left_after, statement_leads}
-use Rattle.twe_machine.proofs.segment_laws.Quiet.{leads_silently}
+use Rattle.machine_state.proofs.segment_laws.Leading.{BelowLeads, FlowLeads, left_after, statement_leads}
+use Rattle.machine_state.proofs.segment_laws.Quiet.{leads_silently}
 use Rattle.isolation_laws.proofs.sparing.Calls.{EachSpares, GivenSpares, called_spares, unit_spares}
 use Rattle.isolation_laws.proofs.sparing.Expressions.{path_spares, spare_back, spare_front, value_spares, values_spare}
 use Rattle.isolation_laws.proofs.paths.FineRests.{AllSpare, Fine, fine_later, fine_own}

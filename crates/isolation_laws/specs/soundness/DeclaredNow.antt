@@ -3,8 +3,8 @@ use Rattle.std.specs.Prelude.{ℕ, ℤ, true, false, List, [], ◌∷◌}
 use Rattle.region_paths.specs.Concrete.{region}
 use Rattle.effect_sets.specs.Access.{PathAccess as PathAccess, SomeCoversAccess}
 use Rattle.twe_program.specs.Program.{Program}
-use Rattle.seg_exec.specs.Access.{Access, Reads, Writes, Prints}
-use Rattle.seg_exec.specs.Entry.{effects_at}
+use Rattle.seg_meaning.specs.Access.{Access, Reads, Writes, Prints}
+use Rattle.seg_meaning.specs.Entry.{effects_at}
 use Rattle.isolation_laws.specs.soundness.CellPaths.{path_of_cell}
 
 -- a read or a write of a cell has the cell's concrete path; a print is a write of `Console`, which is the first region

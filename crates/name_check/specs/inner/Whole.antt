@@ -13,7 +13,7 @@ use Rattle.name_check.specs.Sites.{sites_of_item}
 use Rattle.name_check.specs.inner.Failures.{first_of_sites, is_void}
 use Rattle.twe_base.specs.First.{failure_if}
 use Rattle.name_check.specs.inner.First.{first_from}
-use Rattle.name_check.specs.inner.OtherFailures.{item_failures}
+use Rattle.name_check.specs.OtherFailures.{item_failures}
 
 -- a name is `Console`, or one of these names before it
 abbrev pub is_again : List GlobalName → GlobalName → Bool

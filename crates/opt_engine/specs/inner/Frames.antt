@@ -1,6 +1,6 @@
 -- The parts in which two frames are compared.
 use Rattle.std.specs.Prelude.{◌≡◌}
-use Rattle.seg_exec.specs.declared.frame.Frame.{Frame}
+use Rattle.seg_meaning.specs.declared.frame.Frame.{Frame}
 
 -- the frames are of one task, and have come equally far
 pub record SameProgress (a b : Frame) : Type 0 where

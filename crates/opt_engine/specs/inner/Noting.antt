@@ -1,54 +1,54 @@
 -- Notes of accesses, and cells that keep them.
 use Rattle.std.specs.Prelude.{◌≡◌, ◌<◌, ℕ, ℤ, List, [], ◌∷◌, ◌++◌, length, replicate, Option, None, Some, slice_get, slice_set}
-use Rattle.seg_exec.specs.Access.{Access, Reads, Writes, Prints, value_in}
+use Rattle.seg_meaning.specs.Access.{Access, Reads, Writes, Prints, value_in}
 use Rattle.opt_engine.specs.declared.touch.CellValue.{CellValue}
-use Rattle.opt_engine.specs.declared.notes.Mark.{Mark}
-use Rattle.opt_engine.specs.declared.notes.Mark.TheVariants as marks
-use Rattle.opt_engine.specs.declared.notes.Notes.{Notes}
+use Rattle.opt_engine.specs.declared.notes.CellMark.{CellMark}
+use Rattle.opt_engine.specs.declared.notes.CellMark.TheVariants as marks
+use Rattle.opt_engine.specs.declared.notes.CellNotes.{CellNotes}
 use Rattle.opt_engine.specs.declared.touching.Touching.{Touching}
 
 -- no notes of so many cells
-abbrev pub no_notes : ℕ → Notes
+abbrev pub no_notes : ℕ → CellNotes
 no_notes cells = record { marks = replicate cells marks.Untouched; reads = []; written = [] }
 
 -- the notes after the first access of a cell, which was a read of this value
-abbrev pub first_read_noted : ℕ → ℤ → Notes → Notes
+abbrev pub first_read_noted : ℕ → ℤ → CellNotes → CellNotes
 first_read_noted cell value notes = record notes {
   marks = slice_set notes.marks cell marks.Read;
   reads = notes.reads ++ record { cell = cell; value = value } ∷ [];
 }
 
 -- the notes after the first write of a cell
-abbrev pub first_write_noted : ℕ → Notes → Notes
+abbrev pub first_write_noted : ℕ → CellNotes → CellNotes
 first_write_noted cell notes = record notes {
   marks = slice_set notes.marks cell marks.Written;
   written = notes.written ++ cell ∷ [];
 }
 
 -- the notes after a read, by the mark of the cell
-abbrev pub read_by_mark : Option Mark → ℕ → ℤ → Notes → Notes
+abbrev pub read_by_mark : Option CellMark → ℕ → ℤ → CellNotes → CellNotes
 read_by_mark None cell value notes = notes
 read_by_mark (Some marks.Untouched) cell value notes = first_read_noted cell value notes
 read_by_mark (Some marks.Read) cell value notes = notes
 read_by_mark (Some marks.Written) cell value notes = notes
 
 -- the notes after a read of a cell that gave this value
-abbrev pub read_noted : ℕ → ℤ → Notes → Notes
+abbrev pub read_noted : ℕ → ℤ → CellNotes → CellNotes
 read_noted cell value notes = read_by_mark (slice_get notes.marks cell) cell value notes
 
 -- the notes after a write, by the mark of the cell
-abbrev pub write_by_mark : Option Mark → ℕ → Notes → Notes
+abbrev pub write_by_mark : Option CellMark → ℕ → CellNotes → CellNotes
 write_by_mark None cell notes = notes
 write_by_mark (Some marks.Untouched) cell notes = first_write_noted cell notes
 write_by_mark (Some marks.Read) cell notes = first_write_noted cell notes
 write_by_mark (Some marks.Written) cell notes = notes
 
 -- the notes after a write of a cell
-abbrev pub write_noted : ℕ → Notes → Notes
+abbrev pub write_noted : ℕ → CellNotes → CellNotes
 write_noted cell notes = write_by_mark (slice_get notes.marks cell) cell notes
 
 -- the notes after accesses, of which the latest is the first
-abbrev pub notes_after : List Access → Notes → Notes
+abbrev pub notes_after : List Access → CellNotes → CellNotes
 notes_after [] notes = notes
 notes_after (Reads cell value ∷ earlier) notes = read_noted cell value (notes_after earlier notes)
 notes_after (Writes cell value ∷ earlier) notes = write_noted cell (notes_after earlier notes)

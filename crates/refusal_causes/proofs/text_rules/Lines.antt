@@ -8,7 +8,7 @@ use Rattle.std.proofs.lemmas.List.Sums.{sum_by-append}
 use Rattle.twe_base.specs.declared.place.Place.{Place}
 use Rattle.twe_lexer.specs.Lexeme.{is_line_end}
 use Rattle.twe_lexer.specs.Places.{place_after}
-use Rattle.place_notes.specs.Lines.{after_line, after_lines, line_length}
+use Rattle.twe_frontend.specs.Lines.{after_line, after_lines, line_length}
 use Rattle.refusal_causes.specs.text_rules.Behind.{from_place}
 
 -- a byte that ends no line

@@ -20,21 +20,21 @@ use Rattle.twe_parser.proofs.Located.{token_of}
 use Rattle.refusal_causes.proofs.text_rules.Counting.{concat_snoc}
 use Rattle.refusal_causes.specs.text_rules.Open.{AreOpenAt, open_after, open_of}
 use Rattle.refusal_causes.specs.text_rules.inner.Walked.{HasWalked, open_if}
-use Rattle.refusal_causes.specs.declared.text_rules.walk.Walk.{Walk}
+use Rattle.refusal_causes.specs.declared.text_rules.walk.BracketWalk.{BracketWalk}
 
 -- nothing is passed yet
-pub not_begun : (text : List ℕ) (walk : Walk) → walk.place ≡ place_after [] → walk.places ≡ [] → HasWalked text text [] walk
+pub not_begun : (text : List ℕ) (walk : BracketWalk) → walk.place ≡ place_after [] → walk.places ≡ [] → HasWalked text text [] walk
 not_begun text walk place places = record { cut = refl; place_is = place; open_is = places }
 
 -- lines and columns can be counted
-pub lines_fit : (text rest : List ℕ) (lexemes : List (List ℕ)) (walk : Walk) → HasWalked text rest lexemes walk → walk.place.line + length rest ≤ length text + 1
+pub lines_fit : (text rest : List ℕ) (lexemes : List (List ℕ)) (walk : BracketWalk) → HasWalked text rest lexemes walk → walk.place.line + length rest ≤ length text + 1
 lines_fit text rest lexemes walk walked =
     let line_is : walk.place.line ≡ 1 + count_by is_line_end (concat lexemes) = ap (λ (at : Place). at.line) walked.place_is in
     let counted : length text ≡ length (concat lexemes) + length rest = ap length (cut_split lexemes text rest walked.cut) ∙ length-append (concat lexemes) rest in
     let bounded = count_by-le-length is_line_end (concat lexemes) in
     omega arith
 
-pub columns_fit : (text rest : List ℕ) (lexemes : List (List ℕ)) (walk : Walk) → HasWalked text rest lexemes walk → walk.place.col + length rest ≤ length text + 1
+pub columns_fit : (text rest : List ℕ) (lexemes : List (List ℕ)) (walk : BracketWalk) → HasWalked text rest lexemes walk → walk.place.col + length rest ≤ length text + 1
 columns_fit text rest lexemes walk walked =
     let col_is : walk.place.col ≡ 1 + suffix_len (λ code. not (is_line_end code)) (concat lexemes) = ap (λ (at : Place). at.col) walked.place_is in
     let counted : length text ≡ length (concat lexemes) + length rest = ap length (cut_split lexemes text rest walked.cut) ∙ length-append (concat lexemes) rest in
@@ -50,7 +50,7 @@ no_kind : (bytes : List ℕ) (gap : Bool) → is_gap bytes ≡ gap → None ≡ 
 no_kind bytes true is found = is
 no_kind bytes false is found = let some : ◌≡◌ {A = Option TokenKind} None (Some (kind_of bytes)) = found ∙ cond-false (is_gap bytes) None (Some (kind_of bytes)) is in cc
 
-module _ (text rest : List ℕ) (lexemes : List (List ℕ)) (walk : Walk) (walked : HasWalked text rest lexemes walk) (lexeme : Lexeme) (front : Opens lexeme rest) where
+module _ (text rest : List ℕ) (lexemes : List (List ℕ)) (walk : BracketWalk) (walked : HasWalked text rest lexemes walk) (lexeme : Lexeme) (front : Opens lexeme rest) where
   abbrev pub bytes : List ℕ
   bytes = take lexeme.len rest
 
@@ -65,7 +65,7 @@ module _ (text rest : List ℕ) (lexemes : List (List ℕ)) (walk : Walk) (walke
   next_is next moves = moves (concat lexemes) walked.place_is ∙ ap place_after (sym (concat_snoc lexemes bytes))
 
   -- one more blank or comment
-  pub gap_passed : (after : Walk) → Moves after.place → lexeme.token ≡ None → after.places ≡ walk.places → HasWalked text (drop lexeme.len rest) (lexemes ++ bytes ∷ []) after
+  pub gap_passed : (after : BracketWalk) → Moves after.place → lexeme.token ≡ None → after.places ≡ walk.places → HasWalked text (drop lexeme.len rest) (lexemes ++ bytes ∷ []) after
   gap_passed after moves none places =
       let gap = no_kind bytes (is_gap bytes) refl (sym none ∙ front.token) in
       let same : tokens_from [] (lexemes ++ bytes ∷ []) ≡ tokens_from [] lexemes =
@@ -78,7 +78,7 @@ module _ (text rest : List ℕ) (lexemes : List (List ℕ)) (walk : Walk) (walke
       }
 
   -- one more token
-  pub token_passed : (after : Walk) → Moves after.place → (kind : TokenKind) → lexeme.token ≡ Some kind
+  pub token_passed : (after : BracketWalk) → Moves after.place → (kind : TokenKind) → lexeme.token ≡ Some kind
       → after.places ≡ open_after walk.places (record { kind = kind; place = walk.place }) → HasWalked text (drop lexeme.len rest) (lexemes ++ bytes ∷ []) after
   token_passed after moves kind is places =
       let the = some_kind bytes (is_gap bytes) kind refl (sym is ∙ front.token) in
@@ -96,13 +96,13 @@ module _ (text rest : List ℕ) (lexemes : List (List ℕ)) (walk : Walk) (walke
       }
 
   -- one more lexeme
-  pub passed : (after : Walk) → Moves after.place → (token : Option TokenKind) → lexeme.token ≡ token
+  pub passed : (after : BracketWalk) → Moves after.place → (token : Option TokenKind) → lexeme.token ≡ token
       → after.places ≡ open_if walk.places token walk.place → HasWalked text (drop lexeme.len rest) (lexemes ++ bytes ∷ []) after
   passed after moves None is places = gap_passed after moves is places
   passed after moves (Some kind) is places = token_passed after moves kind is places
 
 -- what is open where the walk stands
-pub stands : (text rest : List ℕ) (lexemes : List (List ℕ)) (walk : Walk) (place : Place) → HasWalked text rest lexemes walk → walk.place ≡ place → AreOpenAt text place walk.places
+pub stands : (text rest : List ℕ) (lexemes : List (List ℕ)) (walk : BracketWalk) (place : Place) → HasWalked text rest lexemes walk → walk.place ≡ place → AreOpenAt text place walk.places
 stands text rest lexemes walk place walked is = record {
   before = concat lexemes;
   rest = rest;

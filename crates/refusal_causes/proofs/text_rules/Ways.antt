@@ -17,7 +17,7 @@ use Rattle.refusal_causes.proofs.text_rules.Counting.{later_by}
 use Rattle.refusal_causes.proofs.text_rules.Tokens.{not_both, not_itself, stop_fails}
 use Rattle.refusal_causes.specs.text_rules.Open.{AreFoundAt, AreOpenAt, IsBrokenBefore, open_of}
 use Rattle.refusal_causes.specs.text_rules.inner.Walked.{HasWalked, IsAhead, IsHindered, IsOnItsWay}
-use Rattle.refusal_causes.specs.declared.text_rules.walk.Walk.{Walk}
+use Rattle.refusal_causes.specs.declared.text_rules.walk.BracketWalk.{BracketWalk}
 
 -- what comes before a part of a text that is left
 same_front : (one other its : List ℕ) → one ++ its ≡ other ++ its → one ≡ other
@@ -37,7 +37,7 @@ ends_at text place places open_there =
 pub all_ahead : (text : List ℕ) (place : Place) → IsAhead text text [] place
 all_ahead text place its others cut at = (others, refl, cut)
 
-module _ (text rest : List ℕ) (lexemes : List (List ℕ)) (walk : Walk) (place : Place) (walked : HasWalked text rest lexemes walk)
+module _ (text rest : List ℕ) (lexemes : List (List ℕ)) (walk : BracketWalk) (place : Place) (walked : HasWalked text rest lexemes walk)
     (ahead : IsAhead text rest lexemes place) (elsewhere : ¬ (walk.place ≡ place)) where
   -- at least one lexeme more comes before the place
   pub data IsFurther (its : List ℕ) (others : List (List ℕ)) : Type 0 where
@@ -174,7 +174,7 @@ one_answer text place places others one other =
     lexemes = by_cuts (compare_cuts one.cut.lexemes other.cut.lexemes text one.rest other.rest one.cut.cut other.cut.cut)
 
 -- one lexeme is passed on the way
-pub goes_on : (text rest left : List ℕ) (walk after : Walk) (place : Place) → IsOnItsWay text rest walk place → ¬ (walk.place ≡ place)
+pub goes_on : (text rest left : List ℕ) (walk after : BracketWalk) (place : Place) → IsOnItsWay text rest walk place → ¬ (walk.place ≡ place)
     → (lexeme : Lexeme) → Opens lexeme rest → left ≡ drop lexeme.len rest
     → ((whole : List ℕ) (lexemes : List (List ℕ)) → HasWalked whole rest lexemes walk → HasWalked whole (drop lexeme.len rest) (lexemes ++ take lexeme.len rest ∷ []) after)
     → IsOnItsWay text left after place
@@ -186,5 +186,5 @@ goes_on text rest left walk after place way elsewhere lexeme front same passes =
     })
 
 -- nothing has been passed
-pub begins : (text : List ℕ) (walk : Walk) (place : Place) → HasWalked text text [] walk → IsOnItsWay text text walk place
+pub begins : (text : List ℕ) (walk : BracketWalk) (place : Place) → HasWalked text text [] walk → IsOnItsWay text text walk place
 begins text walk place walked = record { lexemes = []; walked = walked; ahead = all_ahead text place }

@@ -3,6 +3,7 @@ use Rattle.std.specs.Prelude.{ℕ, ◌+◌, nat_lt, if◌then◌else◌, None, S
 use Rattle.twe_base.specs.declared.place.Place.{Place}
 use Rattle.refusal_causes.specs.declared.places.Four.{Four}
 use Rattle.refusal_causes.specs.declared.places.KeptPlaces.{KeptPlaces}
+use Rattle.refusal_causes.specs.Places.{max_counted}
 
 -- at the end, if there are fewer than four
 abbrev pub with_next : Place → Four → Four
@@ -17,9 +18,9 @@ with_next place p =
 abbrev pub with_front : Place → Four → Four
 with_front place p = record { one = Some place; two = p.one; three = p.two; four = p.three }
 
--- the number of places, or 9 for more than eight
+-- one place more, if so many are counted
 abbrev pub one_more : ℕ → ℕ
-one_more n = if nat_lt n 9 then n + 1 else 9
+one_more n = if nat_lt n max_counted then n + 1 else max_counted
 
 -- the places with one more at the end
 abbrev pub kept_with : Place → KeptPlaces → KeptPlaces

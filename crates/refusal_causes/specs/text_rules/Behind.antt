@@ -1,7 +1,7 @@
 -- What stands behind a place of a text.
 use Rattle.std.specs.Prelude.{ℕ, ◌-◌, List, drop}
 use Rattle.twe_base.specs.declared.place.Place.{Place}
-use Rattle.place_notes.specs.Lines.{after_lines}
+use Rattle.twe_frontend.specs.Lines.{after_lines}
 
 -- the text from the place on
 abbrev pub from_place : List ℕ → Place → List ℕ

@@ -3,8 +3,8 @@ ghost use Rattle.std.specs.Prelude.{◌≡◌, ◌++◌, ℕ, List};
 ghost use Rattle.twe_lexer.specs.Places.{place_after};
 ghost use Rattle.refusal_causes.specs.text_rules.Behind.{from_place};
 
-use place_notes::{after_bytes, after_lines};
 use twe_base::Place;
+use twe_frontend::{after_bytes, after_lines};
 
 /// The text from the place on.
 pub fn from_place(text: &[u8], place: Place) -> &[u8]

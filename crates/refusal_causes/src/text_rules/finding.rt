@@ -2,7 +2,6 @@
 ghost use Rattle.std.specs.Prelude.{◌≡◌, ◌<◌, length, get_or, true, IfOk};
 ghost use Rattle.twe_parser.specs.declared.fail.SRule.TheVariants.{S1, S4, S5, S6};
 ghost use Rattle.twe_parser.specs.Fails.{Fails, IsSyntaxFailure};
-ghost use Rattle.twe_parser.specs.Limits.{opens};
 ghost use Rattle.refusal_causes.specs.text_rules.Causes.{IsTextCause, has_cause};
 ghost use Rattle.refusal_causes.specs.text_rules.inner.Standing.{is_next};
 
@@ -11,8 +10,8 @@ use crate::text_rules::cause::TextCause;
 use crate::text_rules::standing::kind_at;
 use std::alloc::Global;
 use twe_base::{MAX_LITERAL, Memory, Place};
-use twe_lexer::{Fixed, TokenKind};
-use twe_parser::SRule;
+use twe_lexer::TokenKind;
+use twe_parser::{SRule, opens};
 
 /// The first byte.
 fn first_byte(bytes: &[u8]) -> u8
@@ -51,16 +50,6 @@ fn number_cause(alloc: Global, text: &[u8], place: Place) -> Result<TextCause, M
     } else {
         Ok(TextCause::NumberTooLarge)
     }
-}
-
-/// Whether the token is an opening bracket.
-fn opens(kind: &TokenKind) -> bool
-    ensures { result ≡ opens kind.now }
-{
-    matches!(
-        kind,
-        TokenKind::Fixed(Fixed::OpenBrace | Fixed::OpenParen | Fixed::OpenBracket)
-    )
 }
 
 /// Of what there is one too many at the place.

@@ -11,7 +11,7 @@ use twe_lexer::{Lexeme, LexemeFail, first_lexeme, first_place, place_past};
 
 /// Where a walk has come to, and which brackets are open there.
 #[derive(Debug, Drop)]
-pub(crate) struct Walk {
+pub(crate) struct BracketWalk {
     /// The place of the next byte.
     pub place: Place,
     /// The places of the brackets that are open, the outermost first.
@@ -32,7 +32,7 @@ fn front_of(alloc: Global, rest: &[u8]) -> Result<Option<Lexeme>, Memory>
 }
 
 /// Goes on behind the first lexeme of what is left.
-fn pass_lexeme(walk: &mut Walk, rest: &[u8], lexeme: &Lexeme) -> Result<(), Memory>
+fn pass_lexeme(walk: &mut BracketWalk, rest: &[u8], lexeme: &Lexeme) -> Result<(), Memory>
     requires front { Opens lexeme.now rest.now }
     requires lines { walk.old.place.line + length rest.now < 2 ^ 32 }
     requires columns { walk.old.place.col + length rest.now < 2 ^ 32 }
@@ -46,7 +46,7 @@ fn pass_lexeme(walk: &mut Walk, rest: &[u8], lexeme: &Lexeme) -> Result<(), Memo
 }
 
 /// Whether the walk has come to the place.
-fn is_at(walk: &Walk, place: Place) -> bool
+fn is_at(walk: &BracketWalk, place: Place) -> bool
     ensures here { result ≡ true → walk.now.place ≡ place }
     ensures elsewhere { walk.now.place ≡ place → result ≡ true }
 {
@@ -54,11 +54,11 @@ fn is_at(walk: &Walk, place: Place) -> bool
 }
 
 /// A walk that has not begun.
-fn first_walk(alloc: Global, text: &[u8]) -> Walk
+fn first_walk(alloc: Global, text: &[u8]) -> BracketWalk
     ensures { HasWalked text.now text.now [] result }
 {
     let _ = text;
-    Walk {
+    BracketWalk {
         place: first_place(),
         places: OpenPlaces::new(alloc),
     }

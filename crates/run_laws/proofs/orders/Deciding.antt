@@ -10,16 +10,16 @@ use Rattle.wait_graph.specs.Link.{link_of}
 use Rattle.wait_graph.specs.Waiting.{WaitsOn, WaitsOnUnlessDone, YieldsTo}
 use Rattle.wait_graph.proofs.ChainLemmas.{Chain-append}
 use Rattle.isolation_laws.specs.soundness.KeepsEffects.{KeepsEffects}
-use Rattle.twe_machine.specs.declared.state.State.{State}
-use Rattle.twe_machine.specs.declared.state.TaskStatus.TheVariants.{Enabled, Made}
-use Rattle.twe_machine.specs.Legal.{Interfere, IsBar, MayMove}
-use Rattle.twe_machine.specs.Moves.{start_of}
-use Rattle.twe_machine.specs.Rows.{HasStatus}
-use Rattle.twe_machine.specs.Runs.{Legal, replayed, state_after}
-use Rattle.twe_machine.proofs.links.ChainsStay.{chain_stays_on}
-use Rattle.twe_machine.proofs.standing.ReachedStands.{run_stands, start_stands}
-use Rattle.twe_machine.proofs.standing.Standing.{Stands}
-use Rattle.twe_machine.proofs.tasks.MadeTasks.{made_row, orphan_by, yields_by}
+use Rattle.machine_state.specs.declared.state.State.{State}
+use Rattle.machine_state.specs.declared.state.TaskStatus.TheVariants.{Enabled, Made}
+use Rattle.machine_state.specs.Legal.{Interfere, IsBar, MayMove}
+use Rattle.machine_state.specs.Moves.{start_of}
+use Rattle.machine_state.specs.Rows.{HasStatus}
+use Rattle.machine_state.specs.Runs.{Legal, replayed, state_after}
+use Rattle.machine_state.proofs.links.ChainsStay.{chain_stays_on}
+use Rattle.machine_state.proofs.standing.ReachedStands.{run_stands, start_stands}
+use Rattle.machine_state.proofs.standing.Standing.{Stands}
+use Rattle.machine_state.proofs.tasks.MadeTasks.{made_row, orphan_by, yields_by}
 use Rattle.isolation_laws.proofs.rows.LinksOfRows.{link_there}
 use Rattle.run_laws.specs.Orders.{DecidesFor, IsAdmittedAfter}
 use Rattle.run_laws.proofs.orders.Enabling.{earlier_yield}

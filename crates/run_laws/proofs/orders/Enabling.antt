@@ -16,21 +16,21 @@ use Rattle.wait_graph.specs.Waiting.{SpawnedBy, WaitsForNobody, YieldsTo}
 use Rattle.wait_graph.proofs.ChainLemmas.{Chain-arrives}
 use Rattle.wait_graph.proofs.WaitingLemmas.{YieldsTo-alone}
 use Rattle.isolation_laws.specs.soundness.KeepsEffects.{KeepsEffects}
-use Rattle.twe_machine.specs.declared.state.State.{State}
-use Rattle.twe_machine.specs.declared.state.TaskRow.{TaskRow}
-use Rattle.twe_machine.specs.declared.state.TaskStatus.TheVariants.{Enabled, Made}
-use Rattle.twe_machine.specs.Changes.{made_by}
-use Rattle.twe_machine.specs.Legal.{Interfere, MayTake}
-use Rattle.twe_machine.specs.Moves.{admitted, move_result, result_by_kind, start_of}
-use Rattle.twe_machine.specs.Rows.{HasStatus, IsRow}
-use Rattle.twe_machine.specs.Runs.{IsReached, Legal, LegalFrom, replayed, state_after}
-use Rattle.twe_machine.proofs.links.Ordered.{parent_down, waits_up}
-use Rattle.twe_machine.proofs.lists.Places.{got_one}
-use Rattle.twe_machine.proofs.standing.ReachedStands.{reached_stands, run_stands, taken_stands}
-use Rattle.twe_machine.proofs.standing.SettlesNext.{as_many_links}
-use Rattle.twe_machine.proofs.standing.Standing.{Stands}
-use Rattle.twe_machine.proofs.tasks.LeftAlone.{left_alone}
-use Rattle.twe_machine.proofs.tasks.OtherRows.{row_after}
+use Rattle.machine_state.specs.declared.state.State.{State}
+use Rattle.machine_state.specs.declared.state.TaskRow.{TaskRow}
+use Rattle.machine_state.specs.declared.state.TaskStatus.TheVariants.{Enabled, Made}
+use Rattle.machine_state.specs.Changes.{made_by}
+use Rattle.machine_state.specs.Legal.{Interfere, MayTake}
+use Rattle.machine_state.specs.Moves.{admitted, move_result, result_by_kind, start_of}
+use Rattle.machine_state.specs.Rows.{HasStatus, IsRow}
+use Rattle.machine_state.specs.Runs.{IsReached, Legal, LegalFrom, replayed, state_after}
+use Rattle.machine_state.proofs.links.Ordered.{parent_down, waits_up}
+use Rattle.machine_state.proofs.lists.Places.{got_one}
+use Rattle.machine_state.proofs.standing.ReachedStands.{reached_stands, run_stands, taken_stands}
+use Rattle.machine_state.proofs.standing.SettlesNext.{as_many_links}
+use Rattle.machine_state.proofs.standing.Standing.{Stands}
+use Rattle.machine_state.proofs.tasks.LeftAlone.{left_alone}
+use Rattle.machine_state.proofs.tasks.OtherRows.{row_after}
 use Rattle.isolation_laws.proofs.admission.Statuses.{made_alone}
 use Rattle.isolation_laws.proofs.journals.Journals.{beginning_reached, reached_kept}
 use Rattle.isolation_laws.proofs.rows.LinksOfRows.{enabled_undone, spawned_row}

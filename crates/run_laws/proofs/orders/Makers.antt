@@ -14,28 +14,28 @@ use Rattle.seg_journal.specs.declared.moves.Kind.{Kind}
 use Rattle.seg_journal.specs.declared.moves.Kind.TheVariants.{Admit, Run}
 use Rattle.twe_program.specs.Program.{Program}
 use Rattle.twe_program.specs.WellFormed.{IsWellFormed}
-use Rattle.seg_exec.specs.declared.frame.Frame.{Frame}
-use Rattle.seg_exec.specs.declared.frame.Next.TheVariants.{Get, Go}
-use Rattle.seg_exec.specs.declared.stop.Stop.{Stop}
-use Rattle.seg_exec.specs.declared.stop.Stop.TheVariants as stops
-use Rattle.seg_exec.specs.Entry.{effects_at, entry_frame}
-use Rattle.seg_exec.specs.Giving.{given}
-use Rattle.seg_exec.specs.Segment.{Stopped, segment}
+use Rattle.seg_meaning.specs.declared.frame.Frame.{Frame}
+use Rattle.seg_meaning.specs.declared.frame.Next.TheVariants.{Get, Go}
+use Rattle.seg_meaning.specs.declared.stop.Stop.{Stop}
+use Rattle.seg_meaning.specs.declared.stop.Stop.TheVariants as stops
+use Rattle.seg_meaning.specs.Entry.{effects_at, entry_frame}
+use Rattle.seg_meaning.specs.Giving.{given}
+use Rattle.seg_meaning.specs.Segment.{Stopped, segment}
 use Rattle.wait_graph.specs.Link.{link_of}
-use Rattle.twe_machine.specs.segment_laws.Keeps.{NextAfter, SegmentKeeps}
-use Rattle.twe_machine.specs.segment_laws.Ready.{IsReady, MakesDeclared}
-use Rattle.twe_machine.specs.declared.state.State.{State}
-use Rattle.twe_machine.specs.declared.state.TaskRow.{TaskRow}
-use Rattle.twe_machine.specs.Legal.{MayTake}
-use Rattle.twe_machine.specs.Moves.{admitted, admitted_row, awaited_value, done_row, faulted_row, going_row, joined_child, making_frame, move_result, new_row, parent_of, ran, result_by_kind, start_of, state_after_asking, state_after_fault, state_after_join, state_after_make, state_after_storing, stop_result, stopped_frame}
-use Rattle.twe_machine.specs.Rows.{IsRow, row_awaited}
-use Rattle.twe_machine.specs.Changes.{made_by}
-use Rattle.twe_machine.specs.Runs.{IsReached, Legal, LegalFrom, replayed, state_after}
-use Rattle.twe_machine.proofs.segment_laws.BeingReady.{ready_declared, ready_gets, ready_given}
-use Rattle.twe_machine.proofs.segment_laws.SegmentKept.{segment_keeps}
-use Rattle.twe_machine.proofs.standing.ReachedStands.{start_stands, taken_stands}
-use Rattle.twe_machine.proofs.standing.Standing.{Stands}
-use Rattle.twe_machine.proofs.tasks.LeftAlone.{left_alone}
+use Rattle.machine_state.specs.segment_laws.Keeps.{NextAfter, SegmentKeeps}
+use Rattle.machine_state.specs.segment_laws.Ready.{IsReady, MakesDeclared}
+use Rattle.machine_state.specs.declared.state.State.{State}
+use Rattle.machine_state.specs.declared.state.TaskRow.{TaskRow}
+use Rattle.machine_state.specs.Legal.{MayTake}
+use Rattle.machine_state.specs.Moves.{admitted, admitted_row, awaited_value, done_row, faulted_row, going_row, joined_child, making_frame, move_result, new_row, parent_of, ran, result_by_kind, start_of, state_after_asking, state_after_fault, state_after_join, state_after_make, state_after_storing, stop_result, stopped_frame}
+use Rattle.machine_state.specs.Rows.{IsRow, row_awaited}
+use Rattle.machine_state.specs.Changes.{made_by}
+use Rattle.machine_state.specs.Runs.{IsReached, Legal, LegalFrom, replayed, state_after}
+use Rattle.machine_state.proofs.segment_laws.BeingReady.{ready_declared, ready_gets, ready_given}
+use Rattle.machine_state.proofs.segment_laws.SegmentKept.{segment_keeps}
+use Rattle.machine_state.proofs.standing.ReachedStands.{start_stands, taken_stands}
+use Rattle.machine_state.proofs.standing.Standing.{Stands}
+use Rattle.machine_state.proofs.tasks.LeftAlone.{left_alone}
 use Rattle.isolation_laws.proofs.frames.AfterSegment.{after_futures}
 use Rattle.isolation_laws.proofs.rows.FramePutBack.{rows_home}
 use Rattle.isolation_laws.proofs.rows.JoinedChild.{Untouched}

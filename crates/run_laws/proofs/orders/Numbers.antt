@@ -7,14 +7,14 @@ use Rattle.twe_program.specs.WellFormed.{IsWellFormed}
 use Rattle.wait_graph.specs.Chain.{none, more}
 use Rattle.wait_graph.specs.Waiting.{DescendsFrom, WaitsOn, YieldsTo}
 use Rattle.isolation_laws.specs.soundness.KeepsEffects.{KeepsEffects}
-use Rattle.twe_machine.specs.declared.state.State.{State}
-use Rattle.twe_machine.specs.declared.state.TaskStatus.TheVariants.{Enabled}
-use Rattle.twe_machine.specs.Legal.{Interfere}
-use Rattle.twe_machine.specs.Rows.{HasStatus}
-use Rattle.twe_machine.specs.Runs.{IsReached, Legal, state_after}
-use Rattle.twe_machine.proofs.links.Ordered.{parent_down, waits_up}
-use Rattle.twe_machine.proofs.standing.ReachedStands.{reached_stands}
-use Rattle.twe_machine.proofs.standing.Standing.{Stands}
+use Rattle.machine_state.specs.declared.state.State.{State}
+use Rattle.machine_state.specs.declared.state.TaskStatus.TheVariants.{Enabled}
+use Rattle.machine_state.specs.Legal.{Interfere}
+use Rattle.machine_state.specs.Rows.{HasStatus}
+use Rattle.machine_state.specs.Runs.{IsReached, Legal, state_after}
+use Rattle.machine_state.proofs.links.Ordered.{parent_down, waits_up}
+use Rattle.machine_state.proofs.standing.ReachedStands.{reached_stands}
+use Rattle.machine_state.proofs.standing.Standing.{Stands}
 use Rattle.isolation_laws.proofs.effects.Interference.{some-mutual}
 use Rattle.isolation_laws.proofs.journals.Journals.{reached_kept}
 use Rattle.run_laws.specs.Orders.{WasEnabledBefore}

@@ -10,18 +10,18 @@ use Rattle.seg_journal.specs.declared.moves.Kind.TheVariants.{Admit, Run}
 use Rattle.twe_base.specs.Limits.{Bounds}
 use Rattle.twe_program.specs.Program.{Program}
 use Rattle.twe_program.specs.WellFormed.{IsWellFormed}
-use Rattle.twe_machine.specs.declared.state.State.{State}
-use Rattle.twe_machine.specs.declared.state.TaskRow.{TaskRow}
-use Rattle.twe_machine.specs.declared.state.TaskStatus.{TaskStatus}
-use Rattle.twe_machine.specs.declared.state.TaskStatus.TheVariants.{Done, Enabled, Faulted, Made}
-use Rattle.twe_machine.specs.Legal.{MayTake}
-use Rattle.twe_machine.specs.Moves.{admitted, admitted_row, move_result, result_by_kind, start_of}
-use Rattle.twe_machine.specs.Rows.{HasStatus, IsRow}
-use Rattle.twe_machine.specs.Runs.{Legal, LegalFrom, replayed}
-use Rattle.twe_machine.proofs.standing.ReachedStands.{start_stands, taken_stands}
-use Rattle.twe_machine.proofs.standing.Standing.{IsOver, Stands}
-use Rattle.twe_machine.proofs.tasks.LeftAlone.{left_alone}
-use Rattle.twe_machine.proofs.tasks.OtherRows.{row_after}
+use Rattle.machine_state.specs.declared.state.State.{State}
+use Rattle.machine_state.specs.declared.state.TaskRow.{TaskRow}
+use Rattle.machine_state.specs.declared.state.TaskStatus.{TaskStatus}
+use Rattle.machine_state.specs.declared.state.TaskStatus.TheVariants.{Done, Enabled, Faulted, Made}
+use Rattle.machine_state.specs.Legal.{MayTake}
+use Rattle.machine_state.specs.Moves.{admitted, admitted_row, move_result, result_by_kind, start_of}
+use Rattle.machine_state.specs.Rows.{HasStatus, IsRow}
+use Rattle.machine_state.specs.Runs.{Legal, LegalFrom, replayed}
+use Rattle.machine_state.proofs.standing.ReachedStands.{start_stands, taken_stands}
+use Rattle.machine_state.proofs.standing.Standing.{IsOver, Stands}
+use Rattle.machine_state.proofs.tasks.LeftAlone.{left_alone}
+use Rattle.machine_state.proofs.tasks.OtherRows.{row_after}
 use Rattle.run_laws.specs.Orders.{IsNotEnabledYet, WasEnabledBefore}
 use Rattle.run_laws.proofs.orders.Enabling.{at_most_one}
 use Rattle.run_laws.proofs.orders.TasksStay.{IsOut, enabled_or_not, legal_both, not_there, one_status, out_at_end, over_at_end}

@@ -14,27 +14,27 @@ use Rattle.seg_journal.specs.declared.moves.Kind.TheVariants.{Admit, Run}
 use Rattle.seg_journal.specs.declared.moves.Move.{Move}
 use Rattle.twe_program.specs.Program.{Program}
 use Rattle.twe_program.specs.WellFormed.{IsWellFormed}
-use Rattle.seg_exec.specs.declared.frame.Frame.{Frame}
-use Rattle.seg_exec.specs.declared.stop.Stop.{Stop}
-use Rattle.seg_exec.specs.declared.stop.Stop.TheVariants as stops
-use Rattle.seg_exec.specs.Segment.{Stopped, segment}
+use Rattle.seg_meaning.specs.declared.frame.Frame.{Frame}
+use Rattle.seg_meaning.specs.declared.stop.Stop.{Stop}
+use Rattle.seg_meaning.specs.declared.stop.Stop.TheVariants as stops
+use Rattle.seg_meaning.specs.Segment.{Stopped, segment}
 use Rattle.wait_graph.specs.Link.{link_of}
-use Rattle.twe_machine.specs.declared.state.State.{State}
-use Rattle.twe_machine.specs.declared.state.TaskRow.{TaskRow}
-use Rattle.twe_machine.specs.declared.state.TaskStatus.{TaskStatus}
-use Rattle.twe_machine.specs.declared.state.TaskStatus.TheVariants.{Done, Enabled, Faulted, Made}
-use Rattle.twe_machine.specs.Changes.{IsTaskOf}
-use Rattle.twe_machine.specs.Legal.{MayMove, MayTake}
-use Rattle.twe_machine.specs.Moves.{done_row, faulted_row, going_row, joined_child, joined_row, making_frame, move_result, new_row, parent_of, ran, ready_frame, result_by_kind, state_after_asking, state_after_fault, state_after_join, state_after_make, stop_result, stopped_frame}
-use Rattle.twe_machine.specs.Rows.{HasStatus, IsRow}
-use Rattle.twe_machine.specs.Runs.{IsReached, LegalFrom, replayed}
-use Rattle.twe_machine.proofs.lists.Places.{below_there, got_one, put_before, set_same}
-use Rattle.twe_machine.proofs.replays.Replayed.{run_more}
-use Rattle.twe_machine.proofs.standing.Halfway.{halfway}
-use Rattle.twe_machine.proofs.standing.LaterStates.{replayed_later}
-use Rattle.twe_machine.proofs.standing.ReachedStands.{linked_of, taken_stands}
-use Rattle.twe_machine.proofs.standing.Standing.{IsOver, Stands}
-use Rattle.twe_machine.proofs.tasks.OtherRows.{row_after}
+use Rattle.machine_state.specs.declared.state.State.{State}
+use Rattle.machine_state.specs.declared.state.TaskRow.{TaskRow}
+use Rattle.machine_state.specs.declared.state.TaskStatus.{TaskStatus}
+use Rattle.machine_state.specs.declared.state.TaskStatus.TheVariants.{Done, Enabled, Faulted, Made}
+use Rattle.machine_state.specs.Changes.{IsTaskOf}
+use Rattle.machine_state.specs.Legal.{MayMove, MayTake}
+use Rattle.machine_state.specs.Moves.{done_row, faulted_row, going_row, joined_child, joined_row, making_frame, move_result, new_row, parent_of, ran, ready_frame, result_by_kind, state_after_asking, state_after_fault, state_after_join, state_after_make, stop_result, stopped_frame}
+use Rattle.machine_state.specs.Rows.{HasStatus, IsRow}
+use Rattle.machine_state.specs.Runs.{IsReached, LegalFrom, replayed}
+use Rattle.machine_state.proofs.lists.Places.{below_there, got_one, put_before, set_same}
+use Rattle.machine_state.proofs.replays.Replayed.{run_more}
+use Rattle.machine_state.proofs.standing.Halfway.{halfway}
+use Rattle.machine_state.proofs.standing.LaterStates.{replayed_later}
+use Rattle.machine_state.proofs.standing.ReachedStands.{linked_of, taken_stands}
+use Rattle.machine_state.proofs.standing.Standing.{IsOver, Stands}
+use Rattle.machine_state.proofs.tasks.OtherRows.{row_after}
 
 -- the state after a legal move of a reached state is reached
 pub reached_next : (p : Program) (lim : Bounds) (st : State) (mv : Move) → IsReached p lim st → MayMove st mv → IsReached p lim (move_result p lim st mv).0

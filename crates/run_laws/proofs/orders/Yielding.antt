@@ -8,12 +8,12 @@ use Rattle.twe_program.specs.WellFormed.{IsWellFormed}
 use Rattle.wait_graph.specs.Chain.{none, more}
 use Rattle.wait_graph.specs.declared.tasks.Link.{Link}
 use Rattle.wait_graph.specs.Waiting.{DescendsFrom, IsDone, SpawnedBy, YieldsTo}
-use Rattle.twe_machine.specs.declared.state.State.{State}
-use Rattle.twe_machine.specs.Rows.{is_done_status}
-use Rattle.twe_machine.specs.Runs.{LegalFrom, replayed}
-use Rattle.twe_machine.proofs.links.ChainsStay.{chain_stays_on}
-use Rattle.twe_machine.proofs.standing.ReachedStands.{run_stands}
-use Rattle.twe_machine.proofs.standing.Standing.{Stands}
+use Rattle.machine_state.specs.declared.state.State.{State}
+use Rattle.machine_state.specs.Rows.{is_done_status}
+use Rattle.machine_state.specs.Runs.{LegalFrom, replayed}
+use Rattle.machine_state.proofs.links.ChainsStay.{chain_stays_on}
+use Rattle.machine_state.proofs.standing.ReachedStands.{run_stands}
+use Rattle.machine_state.proofs.standing.Standing.{Stands}
 use Rattle.isolation_laws.proofs.journals.Invariant.{done_childless}
 use Rattle.isolation_laws.proofs.rows.LinksOfRows.{link_there, spawned_row}
 use Rattle.run_laws.proofs.orders.TasksStay.{tasks_stay}

@@ -1,8 +1,8 @@
 -- The variables of the active body and of its callers in the state of a machine.
 use Rattle.std.proofs.Common.{◌≡◌, ℕ, ℤ, List, ◌∷◌, take, refl, ap, sym, ◌∙◌}
-use Rattle.seg_exec.specs.declared.active.ActiveCall.{ActiveCall}
-use Rattle.seg_exec.specs.declared.frame.Position.{Position}
-use Rattle.seg_exec.specs.declared.operation.Operation.{Operation}
+use Rattle.seg_meaning.specs.declared.active.ActiveCall.{ActiveCall}
+use Rattle.seg_meaning.specs.declared.frame.Position.{Position}
+use Rattle.seg_meaning.specs.declared.operation.Operation.{Operation}
 use Rattle.seg_exec.specs.declared.steps.continuation.Continuation.{Continuation as Held}
 use Rattle.seg_exec.specs.declared.steps.continuation.Recovered.{Recovered}
 use Rattle.seg_exec.specs.declared.steps.machine.Machine.{Machine}

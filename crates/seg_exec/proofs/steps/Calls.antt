@@ -1,6 +1,6 @@
 -- The active calls among the continuation frames.
 use Rattle.std.proofs.Common.{◌+◌, ◌≤◌, List, [], ◌∷◌, length, arith}
-use Rattle.seg_exec.specs.declared.active.ActiveCall.{ActiveCall}
+use Rattle.seg_meaning.specs.declared.active.ActiveCall.{ActiveCall}
 use Rattle.seg_exec.specs.declared.steps.continuation.Continuation.{Continuation}
 use Rattle.seg_exec.specs.declared.steps.continuation.Continuation.TheVariants.{Evaluate, Execute, Rest, Choose, UseValue, RightThenReturn, ApplyThenReturn, Gather, Take, Suspend, Leave}
 use Rattle.seg_exec.specs.inner.steps.Calls.{calls_above, calls_of}

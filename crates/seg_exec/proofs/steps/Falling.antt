@@ -10,19 +10,19 @@ use Rattle.twe_program.specs.Program.{Program}
 use Rattle.twe_program.specs.Expression.{Expression, Literal, Truth, Variable, CellValue, ArrayElement, GridElement, CallValue, Negative, Negation, Binary, Arguments, argument}
 use Rattle.twe_program.specs.Expression as exprs
 use Rattle.twe_program.specs.Statement.{Statement, Block, Let, Set, SetCell, SetArray, SetGrid, If, While, Return, Print, Call, Make, Wait, Statements, no_more, statement, Arms, arm, otherwise, no_else}
-use Rattle.seg_exec.specs.declared.active.ActiveCall.{ActiveCall}
-use Rattle.seg_exec.specs.declared.frame.Position.{Position}
-use Rattle.seg_exec.specs.declared.operation.Operation.{Operation}
+use Rattle.seg_meaning.specs.declared.active.ActiveCall.{ActiveCall}
+use Rattle.seg_meaning.specs.declared.frame.Position.{Position}
+use Rattle.seg_meaning.specs.declared.operation.Operation.{Operation}
 use Rattle.seg_exec.specs.declared.steps.request.Request.{Request}
 use Rattle.seg_exec.specs.declared.steps.request.Request.TheVariants as requests
 use Rattle.seg_exec.specs.declared.steps.continuation.Goal.{Goal}
 use Rattle.seg_exec.specs.declared.steps.continuation.Goal.TheVariants as goals
-use Rattle.seg_exec.specs.Access.{Ways}
-use Rattle.seg_exec.specs.Arithmetic.{is_true, decided}
+use Rattle.seg_meaning.specs.Access.{Ways}
+use Rattle.seg_meaning.specs.Arithmetic.{is_true, decided}
 use Rattle.seg_exec.specs.inner.steps.Reached.{Standing, Served, Advances}
 use Rattle.seg_exec.specs.inner.steps.Sizes.{size_of_expression, size_of_arguments, size_of_statement, size_of_all, size_of_arms, size_of_continuation, size_of_work}
 use Rattle.seg_exec.specs.inner.steps.Continuations.{Continuation, Evaluate, Execute, Rest, Choose, Chosen, Turn, Gather, Take, Negate, Invert, Right, Apply, ReadElement, ReadGridElement, GiveVar, GiveCell, GiveElement, GiveGridElement, PrintValue, Discard, Unwind, Suspend, Leave, Config, top, without_operand}
-use Rattle.seg_exec.specs.declared.fault.FaultCause.{FaultCause}
+use Rattle.seg_meaning.specs.declared.fault.FaultCause.{FaultCause}
 use Rattle.seg_exec.specs.inner.steps.Steps.{Step, Recovery, ToCaller, OfBlock, NoRecovery, asked_unit, unit_or, chosen_by, turned_by, entered_by, gathered, gathering, right_by, applied, read_at, written_at, unwound, unwound_past, suspended, suspended_past, recovered_from, worked, evaluated, executed, is_return, rest_below, rested, choosing, step_by, step_of}
 
 -- a step that is not the end has no more fuel, and, with as much fuel, less work

@@ -11,20 +11,20 @@ use Rattle.twe_program.specs.Program.{Program}
 use Rattle.twe_program.specs.Expression.{Expression, Literal, Truth, Variable, CellValue, ArrayElement, GridElement, CallValue, Negative, Negation, Binary, Arguments, argument}
 use Rattle.twe_program.specs.Expression as exprs
 use Rattle.twe_program.specs.Statement.{Statement, Block, Let, Set, SetCell, SetArray, SetGrid, If, While, Return, Print, Call, Make, Wait, Statements, no_more, statement, Arms, arm, otherwise, no_else}
-use Rattle.seg_exec.specs.declared.active.ActiveCall.{ActiveCall}
-use Rattle.seg_exec.specs.declared.operation.Operation.TheVariants as operations
+use Rattle.seg_meaning.specs.declared.active.ActiveCall.{ActiveCall}
+use Rattle.seg_meaning.specs.declared.operation.Operation.TheVariants as operations
 use Rattle.seg_exec.specs.declared.steps.continuation.Goal.{Goal}
 use Rattle.seg_exec.specs.declared.steps.continuation.Goal.TheVariants as goals
 use Rattle.seg_exec.specs.declared.steps.request.Request.TheVariants as requests
 use Rattle.seg_exec.specs.declared.steps.request.Ending.{Ending}
 use Rattle.seg_exec.specs.declared.steps.request.Ending.TheVariants.{Faulted}
-use Rattle.seg_exec.specs.Access.{Access}
-use Rattle.seg_exec.specs.Arithmetic.{is_true, operated, decided}
-use Rattle.seg_exec.specs.Cells.{element_number, grid_element_number}
-use Rattle.seg_exec.specs.Store.{Store, Given, gives, faults, Flow, goes, returns, fails, stops, then_give, then_do, then_go, unit_taken}
-use Rattle.seg_exec.specs.declared.fault.FaultCause.{FaultCause}
-use Rattle.seg_exec.specs.declared.fault.FaultCause.TheVariants.{Index, GridIndex}
-use Rattle.seg_exec.specs.Meaning.{Below, element_read, element_written, value_or_fault, right_given, value_returned, body_of, vars_at_start, given_back, entered, called, value_of, values_of, turned, chosen, stopped_at, done_by, done_all, done_arms, done_within}
+use Rattle.seg_meaning.specs.Access.{Access}
+use Rattle.seg_meaning.specs.Arithmetic.{is_true, operated, decided}
+use Rattle.seg_meaning.specs.Cells.{element_number, grid_element_number}
+use Rattle.seg_meaning.specs.Store.{Store, Given, gives, faults, Flow, goes, returns, fails, stops, then_give, then_do, then_go, unit_taken}
+use Rattle.seg_meaning.specs.declared.fault.FaultCause.{FaultCause}
+use Rattle.seg_meaning.specs.declared.fault.FaultCause.TheVariants.{Index, GridIndex}
+use Rattle.seg_meaning.specs.Meaning.{Below, element_read, element_written, value_or_fault, right_given, value_returned, body_of, vars_at_start, given_back, entered, called, value_of, values_of, turned, chosen, stopped_at, done_by, done_all, done_arms, done_within}
 use Rattle.seg_exec.specs.inner.steps.Continuations.{Continuation, Evaluate, Execute, Rest, Choose, Chosen, Turn, Gather, Take, Negate, Invert, Right, Apply, ReadElement, ReadGridElement, GiveVar, GiveCell, GiveElement, GiveGridElement, PrintValue, Discard, Unwind, Suspend, Leave, Config, to_do}
 use Rattle.seg_exec.specs.inner.steps.Steps.{Step, on, unit_or, asked_unit, read_at, written_at, right_by, applied, turned_by, chosen_by, entered_by, is_return, rest_below}
 use Rattle.seg_exec.specs.inner.steps.Runs.{Moment, Over, Comes, moment, stepped, run}

@@ -2,14 +2,14 @@
 use Rattle.std.proofs.Common.{◌≡◌, ℕ, zero, suc, ◌<◌, ◌≤◌, ℤ, pos, List, [], ◌∷◌, Option, None, Some, sym, ◌∙◌, arith}
 use Rattle.twe_program.specs.Program.{Program}
 use Rattle.twe_program.specs.Statement.{Statement, While, Statements}
-use Rattle.seg_exec.specs.declared.frame.Position.{Position}
+use Rattle.seg_meaning.specs.declared.frame.Position.{Position}
 use Rattle.seg_exec.specs.declared.steps.request.Request.{Request}
 use Rattle.seg_exec.specs.declared.steps.request.Request.TheVariants as requests
 use Rattle.seg_exec.specs.declared.steps.request.Ending.TheVariants.{Returned, Faulted}
 use Rattle.seg_exec.specs.inner.steps.Endings.{suspended_at}
-use Rattle.seg_exec.specs.Store.{Store, Flow, goes, returns, fails, stops}
-use Rattle.seg_exec.specs.Meaning.{Below, done_all}
-use Rattle.seg_exec.specs.Remaining.{after_first, last_of_first, block_of, block_at, turned_again, resumed}
+use Rattle.seg_meaning.specs.Store.{Store, Flow, goes, returns, fails, stops}
+use Rattle.seg_meaning.specs.Meaning.{Below, done_all}
+use Rattle.seg_meaning.specs.Remaining.{after_first, last_of_first, block_of, block_at, turned_again, resumed}
 use Rattle.seg_exec.specs.inner.steps.Continuations.{Continuation, Rest}
 use Rattle.seg_exec.specs.inner.steps.Steps.{step_of}
 use Rattle.seg_exec.specs.inner.steps.Runs.{Comes, Moment, Outcome, Over, Unfinished, moment, served, run}

@@ -2,8 +2,9 @@
 use Rattle.std.proofs.Common.{◌≡◌, ℕ, zero, suc, ◌<◌, ◌≤◌, ℤ, pos, Bool, true, false, cond, ◌||◌, ◌⊎◌, inl, inr, List, [], ◌∷◌, length, Option, Some, refl, sym, ap, ◌∙◌, subst, arith}
 use Rattle.std.specs.Prelude.{nat_eq, slice_get, slice_set}
 use Rattle.std.proofs.lemmas.Bool.{eqb-true, eqb-false, eq-eqb}
-use Rattle.seg_exec.specs.Access.{Access, Reads, Writes, Prints, Agrees, KnowsNow, after, value_in}
+use Rattle.seg_meaning.specs.Access.{Access, Reads, Writes, Prints, Agrees, KnowsNow, after, value_in}
 use Rattle.seg_exec.specs.inner.steps.Reached.{Witness, is_accessed}
+use Rattle.seg_meaning.proofs.CellsAfter.{after_length}
 
 -- a list with a value put at a place, with zeros before it where the list is too short
 put : List ℤ → ℕ → ℤ → List ℤ
@@ -55,17 +56,6 @@ set_else (x ∷ xs) zero zero v ne = absurd (ne refl)
 set_else (x ∷ xs) zero (suc j) v ne = refl
 set_else (x ∷ xs) (suc k) zero v ne = refl
 set_else (x ∷ xs) (suc k) (suc j) v ne = set_else xs k j v (λ e. ne (ap suc e))
-
-set_length : (xs : List ℤ) (k : ℕ) (v : ℤ) → length (slice_set xs k v) ≡ length xs
-set_length [] k v = refl
-set_length (x ∷ xs) zero v = refl
-set_length (x ∷ xs) (suc k) v = ap suc (set_length xs k v)
-
-pub after_length : (cells : List ℤ) (accesses : List Access) → length (after cells accesses) ≡ length cells
-after_length cells [] = refl
-after_length cells (Reads cell value ∷ earlier) = after_length cells earlier
-after_length cells (Writes cell value ∷ earlier) = set_length (after cells earlier) cell value ∙ after_length cells earlier
-after_length cells (Prints value ∷ earlier) = after_length cells earlier
 
 -- what an access says of the cells that are accessed
 or_first : (a b : Bool) → a ≡ true → (a || b) ≡ true

@@ -4,10 +4,10 @@ use Rattle.twe_base.specs.Stacks.{below}
 use Rattle.twe_base.specs.declared.place.Place.{Place}
 use Rattle.twe_ast.specs.declared.expr.BinOp.{BinOp}
 use Rattle.twe_program.specs.Program.{Program}
-use Rattle.seg_exec.specs.declared.fault.FaultCause.TheVariants.{DivZero}
+use Rattle.seg_meaning.specs.declared.fault.FaultCause.TheVariants.{DivZero}
 use Rattle.seg_exec.specs.declared.steps.request.Ending.TheVariants.{Faulted}
-use Rattle.seg_exec.specs.Access.{Ways}
-use Rattle.seg_exec.specs.Arithmetic.{operated}
+use Rattle.seg_meaning.specs.Access.{Ways}
+use Rattle.seg_meaning.specs.Arithmetic.{operated}
 use Rattle.seg_exec.specs.inner.steps.Continuations.{Apply, Config, Unwind, to_do, top, with_operand, without_operand}
 use Rattle.seg_exec.specs.inner.steps.Steps.{applied, on, worked}
 use Rattle.seg_exec.specs.inner.strides.Strides.{Ends, doing}

@@ -5,19 +5,19 @@ use Rattle.twe_base.specs.declared.place.Place.{Place}
 use Rattle.twe_program.specs.Program.{Program}
 use Rattle.twe_program.specs.Expression.{Expression}
 use Rattle.twe_program.specs.Statement.{Statement}
-use Rattle.seg_exec.specs.declared.active.ActiveCall.{ActiveCall}
+use Rattle.seg_meaning.specs.declared.active.ActiveCall.{ActiveCall}
 use Rattle.seg_exec.specs.declared.strides.assign.Carried.{Carried}
 use Rattle.seg_exec.specs.declared.strides.assign.Carried.TheVariants.{Done, Faulted, Left}
 use Rattle.seg_exec.specs.declared.strides.assign.Target.{Target}
 use Rattle.seg_exec.specs.declared.strides.assign.Target.TheVariants.{Var, Cell}
 use Rattle.seg_exec.specs.declared.strides.value.Fault.{Fault}
-use Rattle.seg_exec.specs.Access.{HasWritten, Ways}
-use Rattle.seg_exec.specs.Cells.{cell_number, element_number}
+use Rattle.seg_meaning.specs.Access.{HasWritten, Ways}
+use Rattle.seg_meaning.specs.Cells.{cell_number, element_number}
 use Rattle.seg_exec.specs.inner.strides.Assignments.{Does, MayDo, MayWriteAt, Stays, WritesAt, executing, giving_to, to_element, to_target}
 use Rattle.seg_exec.specs.inner.steps.Continuations.{Config, Continuation, Evaluate, GiveVar, GiveCell, GiveElement}
 use Rattle.seg_exec.specs.inner.steps.Reached.{MayRequest, Served}
-use Rattle.seg_exec.specs.declared.fault.FaultCause.{FaultCause}
-use Rattle.seg_exec.specs.declared.fault.FaultCause.TheVariants.{Index}
+use Rattle.seg_meaning.specs.declared.fault.FaultCause.{FaultCause}
+use Rattle.seg_meaning.specs.declared.fault.FaultCause.TheVariants.{Index}
 use Rattle.seg_exec.specs.inner.steps.Steps.{Step, executed, is_return, on, step_of, written_at}
 use Rattle.seg_exec.specs.inner.strides.Strides.{EvaluatesTo, Goes, MayEvaluate, fault_ending, stand}
 use Rattle.seg_exec.proofs.strides.Strides.{ended, ends_alike, may_now, may_then, one_step, silent, then_ends, then_goes}

@@ -6,11 +6,11 @@ use Rattle.twe_program.specs.Program.{Program}
 use Rattle.twe_program.specs.Expression.{Expression}
 use Rattle.twe_program.specs.Statement.{Return, Statements, statement}
 use Rattle.twe_program.specs.inner.StatementView.{arms_of}
-use Rattle.seg_exec.specs.declared.active.ActiveCall.{ActiveCall}
+use Rattle.seg_meaning.specs.declared.active.ActiveCall.{ActiveCall}
 use Rattle.seg_exec.specs.declared.steps.request.Ending.{Ending}
 use Rattle.seg_exec.specs.declared.strides.pick.Picked.{Picked}
 use Rattle.seg_exec.specs.declared.strides.value.Fault.{Fault}
-use Rattle.seg_exec.specs.Access.{Ways}
+use Rattle.seg_meaning.specs.Access.{Ways}
 use Rattle.seg_exec.specs.inner.steps.Continuations.{Config, Continuation, Choose, Evaluate, Execute, Rest, Unwind, to_do}
 use Rattle.seg_exec.specs.inner.steps.Reached.{Standing}
 use Rattle.seg_exec.specs.inner.strides.Assignments.{MayDo}

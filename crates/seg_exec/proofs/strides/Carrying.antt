@@ -2,13 +2,13 @@
 use Rattle.std.proofs.Common.{◌≡◌, false, ℕ, ℤ, ◌+◌, List, [], ◌∷◌, drop, sym, subst}
 use Rattle.twe_program.specs.Program.{Program}
 use Rattle.twe_program.specs.Statement.{Statement}
-use Rattle.seg_exec.specs.declared.active.ActiveCall.{ActiveCall}
+use Rattle.seg_meaning.specs.declared.active.ActiveCall.{ActiveCall}
 use Rattle.seg_exec.specs.declared.steps.machine.Machine.{Machine}
 use Rattle.seg_exec.specs.declared.steps.request.Ending.{Ending}
 use Rattle.seg_exec.specs.declared.strides.assign.Carried.TheVariants as carried
 use Rattle.seg_exec.specs.declared.strides.carry.CarriedOut.TheVariants.{Done, Faulted}
 use Rattle.seg_exec.specs.declared.strides.value.Fault.{Fault}
-use Rattle.seg_exec.specs.Access.{Ways}
+use Rattle.seg_meaning.specs.Access.{Ways}
 use Rattle.seg_exec.specs.inner.steps.Bodies.{Bodies}
 use Rattle.seg_exec.specs.inner.steps.Continuations.{Config, Continuation}
 use Rattle.seg_exec.specs.inner.steps.Reached.{standing}

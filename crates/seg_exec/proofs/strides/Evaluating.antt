@@ -5,17 +5,17 @@ use Rattle.twe_base.specs.declared.place.Place.{Place}
 use Rattle.twe_ast.specs.declared.expr.BinOp.{BinOp}
 use Rattle.twe_program.specs.Program.{Program}
 use Rattle.twe_program.specs.Expression.{Expression, Literal, Truth, Variable, CellValue, ArrayElement, GridElement, CallValue, Negative, Negation, Binary}
-use Rattle.seg_exec.specs.declared.active.ActiveCall.{ActiveCall}
+use Rattle.seg_meaning.specs.declared.active.ActiveCall.{ActiveCall}
 use Rattle.seg_exec.specs.declared.strides.value.Fault.{Fault}
-use Rattle.seg_exec.specs.Access.{HasRead, Ways, value_in}
-use Rattle.seg_exec.specs.Arithmetic.{decided, is_true, negation, negative, number_of, operated}
-use Rattle.seg_exec.specs.Cells.{cell_number, element_number, grid_element_number}
+use Rattle.seg_meaning.specs.Access.{HasRead, Ways, value_in}
+use Rattle.seg_meaning.specs.Arithmetic.{decided, is_true, negation, negative, number_of, operated}
+use Rattle.seg_meaning.specs.Cells.{cell_number, element_number, grid_element_number}
 use Rattle.seg_exec.specs.inner.steps.Continuations.{Continuation, Config, Apply, Evaluate, Invert, Negate, ReadElement, ReadGridElement, Right}
 use Rattle.seg_exec.specs.inner.strides.Leaves.{decided_or, leaf_value, pair_value, value_on}
 use Rattle.twe_program.specs.Expression.{is_plain}
 use Rattle.seg_exec.specs.inner.steps.Reached.{MayRequest, Served, Standing}
-use Rattle.seg_exec.specs.declared.fault.FaultCause.{FaultCause}
-use Rattle.seg_exec.specs.declared.fault.FaultCause.TheVariants.{Index, GridIndex}
+use Rattle.seg_meaning.specs.declared.fault.FaultCause.{FaultCause}
+use Rattle.seg_meaning.specs.declared.fault.FaultCause.TheVariants.{Index, GridIndex}
 use Rattle.seg_exec.specs.inner.steps.Steps.{Step, applied, read_at, right_by, step_of}
 use Rattle.seg_exec.specs.inner.strides.Strides.{Ends, EvaluatesTo, Gives, Goes, MayEvaluate, MayReadAt, ReadsAt, fault_ending, quotient_or, stand}
 use Rattle.seg_exec.proofs.strides.Strides.{ended, ends_alike, may_now, may_then, one_step, silent, then_ends, then_goes}

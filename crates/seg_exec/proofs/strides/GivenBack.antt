@@ -4,7 +4,7 @@ use Rattle.std.specs.Prelude.{ℤ}
 use Rattle.twe_program.specs.Program.{Program}
 use Rattle.twe_program.specs.Expression.{Expression}
 use Rattle.twe_program.specs.Statement.{Statements}
-use Rattle.seg_exec.specs.Access.{Ways}
+use Rattle.seg_meaning.specs.Access.{Ways}
 use Rattle.seg_exec.specs.inner.steps.Continuations.{Config, Evaluate, Rest, Unwind, to_do, with_operand}
 use Rattle.seg_exec.specs.inner.steps.Reached.{Standing}
 use Rattle.seg_exec.specs.inner.strides.Strides.{EvaluatesTo, Goes, doing}

@@ -5,7 +5,7 @@ use Rattle.twe_program.specs.Program.{Program}
 use Rattle.twe_program.specs.Statement.{Statement, statements_of}
 use Rattle.seg_exec.specs.declared.strides.assign.Carried.TheVariants.{Done, Faulted}
 use Rattle.seg_exec.specs.declared.strides.value.Fault.{Fault}
-use Rattle.seg_exec.specs.Access.{Ways}
+use Rattle.seg_meaning.specs.Access.{Ways}
 use Rattle.seg_exec.specs.inner.strides.Assignments.{Does, MayDo, executing}
 use Rattle.seg_exec.specs.inner.steps.Continuations.{Config, Execute, Rest, to_do}
 use Rattle.seg_exec.specs.inner.steps.Reached.{Standing}

@@ -7,7 +7,7 @@ use Rattle.seg_exec.specs.declared.steps.machine.Machine.{Machine}
 use Rattle.seg_exec.specs.declared.steps.request.Ending.{Ending}
 use Rattle.seg_exec.specs.declared.steps.continuation.OpenBlock.{OpenBlock}
 use Rattle.seg_exec.specs.declared.strides.onward.Onward.{Onward}
-use Rattle.seg_exec.specs.Access.{Ways}
+use Rattle.seg_meaning.specs.Access.{Ways}
 use Rattle.seg_exec.specs.inner.steps.Continuations.{Config, Continuation, Rest, to_do}
 use Rattle.seg_exec.specs.inner.steps.Reached.{Finishes, Reaches, Standing, standing}
 use Rattle.seg_exec.specs.inner.steps.Steps.{on, step_of, worked}

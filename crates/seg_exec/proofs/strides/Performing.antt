@@ -8,8 +8,8 @@ use Rattle.seg_exec.specs.declared.steps.request.Ending.TheVariants.{Returned}
 use Rattle.seg_exec.specs.declared.strides.value.Fault.{Fault}
 use Rattle.twe_base.specs.declared.place.Place.{Place}
 use Rattle.twe_ast.specs.declared.expr.BinOp.{BinOp}
-use Rattle.seg_exec.specs.Access.{Ways}
-use Rattle.seg_exec.specs.Arithmetic.{decided, is_true}
+use Rattle.seg_meaning.specs.Access.{Ways}
+use Rattle.seg_meaning.specs.Arithmetic.{decided, is_true}
 use Rattle.seg_exec.specs.inner.steps.Continuations.{Apply, Config, Continuation, Evaluate, Right, to_do, top, with_operand, without_operand}
 use Rattle.seg_exec.specs.inner.steps.Reached.{MayRequest, Served, Standing}
 use Rattle.seg_exec.specs.inner.steps.Steps.{Step, on, right_by, worked}

@@ -4,10 +4,10 @@ use Rattle.twe_program.specs.declared.stmt.Arm.{Arm}
 use Rattle.twe_program.specs.Program.{Program}
 use Rattle.twe_program.specs.Statement.{Statements}
 use Rattle.twe_program.specs.inner.StatementView.{arms_of}
-use Rattle.seg_exec.specs.declared.active.ActiveCall.{ActiveCall}
+use Rattle.seg_meaning.specs.declared.active.ActiveCall.{ActiveCall}
 use Rattle.seg_exec.specs.declared.strides.value.Fault.{Fault}
-use Rattle.seg_exec.specs.Access.{Ways}
-use Rattle.seg_exec.specs.Arithmetic.{is_true}
+use Rattle.seg_meaning.specs.Access.{Ways}
+use Rattle.seg_meaning.specs.Arithmetic.{is_true}
 use Rattle.seg_exec.specs.inner.steps.Continuations.{Config, Continuation, Chosen, Evaluate, Rest}
 use Rattle.seg_exec.specs.inner.steps.Steps.{choosing, chosen_by}
 use Rattle.seg_exec.specs.inner.strides.Assignments.{MayDo}

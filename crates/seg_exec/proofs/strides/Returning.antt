@@ -3,7 +3,7 @@ use Rattle.std.proofs.Common.{◌≡◌, ℤ, List, [], ◌∷◌, Option, refl,
 use Rattle.twe_program.specs.Program.{Program}
 use Rattle.seg_exec.specs.declared.steps.request.Request.{Request}
 use Rattle.seg_exec.specs.declared.steps.request.Ending.{Ending}
-use Rattle.seg_exec.specs.Access.{Ways}
+use Rattle.seg_meaning.specs.Access.{Ways}
 use Rattle.seg_exec.specs.inner.steps.Continuations.{Config, Continuation, Unwind, to_do, top, with_operand, without_operand}
 use Rattle.seg_exec.specs.inner.steps.Reached.{MayRequest, Served, Standing}
 use Rattle.seg_exec.specs.inner.steps.Steps.{Step, Recovery, ToCaller, OfBlock, NoRecovery, recovered_from, returned, returned_past, unwound_past}

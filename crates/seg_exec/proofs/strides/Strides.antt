@@ -1,10 +1,10 @@
 -- Stretches of steps: one step, one stretch after another, and what they allow.
 use Rattle.std.proofs.Common.{◌≡◌, ℕ, ℤ, List, Option, None, Some, refl, sym, subst, arith}
 use Rattle.twe_program.specs.Program.{Program}
-use Rattle.seg_exec.specs.declared.active.ActiveCall.{ActiveCall}
+use Rattle.seg_meaning.specs.declared.active.ActiveCall.{ActiveCall}
 use Rattle.seg_exec.specs.declared.steps.request.Request.TheVariants.{End}
 use Rattle.seg_exec.specs.declared.steps.request.Ending.{Ending}
-use Rattle.seg_exec.specs.Access.{Ways}
+use Rattle.seg_meaning.specs.Access.{Ways}
 use Rattle.seg_exec.specs.inner.steps.Continuations.{Config, Continuation}
 use Rattle.seg_exec.specs.inner.steps.Reached.{Advances, MayStep, Served, Standing}
 use Rattle.seg_exec.specs.inner.steps.Steps.{Step, on, step_of}

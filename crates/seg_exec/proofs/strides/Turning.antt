@@ -2,7 +2,7 @@
 use Rattle.std.proofs.Common.{◌≡◌, ℕ, ℤ, ◌-◌, Bool, true, false, Ok, List, ◌∷◌, drop, ap, ◌∙◌, subst, arith}
 use Rattle.std.specs.Prelude.{nat_eq}
 use Rattle.twe_base.specs.declared.place.Place.{Place}
-use Rattle.seg_exec.specs.declared.fault.FaultCause.TheVariants.{Fuel}
+use Rattle.seg_meaning.specs.declared.fault.FaultCause.TheVariants.{Fuel}
 use Rattle.twe_program.specs.Program.{Program}
 use Rattle.twe_program.specs.Expression.{Expression}
 use Rattle.twe_program.specs.Statement.{Statement, Statements, statements_of}
@@ -10,8 +10,8 @@ use Rattle.seg_exec.specs.declared.steps.request.Request.TheVariants.{End}
 use Rattle.seg_exec.specs.declared.steps.request.Ending.{Ending}
 use Rattle.seg_exec.specs.declared.strides.carry.CarriedOut.TheVariants.{Done, Faulted}
 use Rattle.seg_exec.specs.declared.strides.value.Fault.{Fault}
-use Rattle.seg_exec.specs.Access.{Ways}
-use Rattle.seg_exec.specs.Arithmetic.{is_true}
+use Rattle.seg_meaning.specs.Access.{Ways}
+use Rattle.seg_meaning.specs.Arithmetic.{is_true}
 use Rattle.seg_exec.specs.inner.steps.Continuations.{Config, Evaluate, Execute, Rest, Turn, to_do, with_operand}
 use Rattle.seg_exec.specs.inner.steps.Reached.{Standing}
 use Rattle.seg_exec.specs.inner.steps.Steps.{faulted, on, turned_by, unit_or}

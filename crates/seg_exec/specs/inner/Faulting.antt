@@ -1,6 +1,6 @@
 -- How a run of the evaluator met its fault.
 use Rattle.std.specs.Prelude.{ℤ, List, Option, None, Some}
-use Rattle.seg_exec.specs.declared.active.ActiveCall.{ActiveCall}
+use Rattle.seg_meaning.specs.declared.active.ActiveCall.{ActiveCall}
 use Rattle.seg_exec.specs.declared.snapshot.FaultSnapshot.{FaultSnapshot}
 use Rattle.seg_exec.specs.declared.steps.request.Ending.{Ending}
 use Rattle.seg_exec.specs.declared.steps.request.Ending.TheVariants.{Returned, Faulted, Suspended}

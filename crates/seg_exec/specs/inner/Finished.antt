@@ -1,14 +1,14 @@
 -- The frame and the stop after a run of the evaluator.
 use Rattle.std.specs.Prelude.{ℤ, List, None, Some}
 use Rattle.twe_program.specs.Program.{Program}
-use Rattle.seg_exec.specs.declared.frame.Frame.{Frame}
-use Rattle.seg_exec.specs.declared.frame.Next.TheVariants.{Ended}
-use Rattle.seg_exec.specs.declared.stop.Stop.{Stop}
-use Rattle.seg_exec.specs.declared.stop.Stop.TheVariants.{Fault}
+use Rattle.seg_meaning.specs.declared.frame.Frame.{Frame}
+use Rattle.seg_meaning.specs.declared.frame.Next.TheVariants.{Ended}
+use Rattle.seg_meaning.specs.declared.stop.Stop.{Stop}
+use Rattle.seg_meaning.specs.declared.stop.Stop.TheVariants.{Fault}
 use Rattle.seg_exec.specs.declared.steps.request.Ending.{Ending}
 use Rattle.seg_exec.specs.declared.steps.request.Ending.TheVariants.{Returned, Faulted, Suspended}
-use Rattle.seg_exec.specs.Causes.{fault_kind}
-use Rattle.seg_exec.specs.Segment.{closing, closing_stop, operation_next, operation_out, operation_stop}
+use Rattle.seg_meaning.specs.Causes.{fault_kind}
+use Rattle.seg_meaning.specs.Segment.{closing, closing_stop, operation_next, operation_out, operation_stop}
 
 -- the frame whose body ended with this value: it joins its unjoined children next, or it is done
 abbrev pub ended_with : Frame → ℤ → Frame

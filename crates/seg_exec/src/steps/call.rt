@@ -6,12 +6,11 @@ ghost use Rattle.seg_exec.specs.inner.steps.Steps.{asked_unit, on};
 ghost use Rattle.seg_exec.specs.inner.steps.Views.{config_of};
 ghost use Rattle.seg_exec.specs.declared.steps.continuation.Goal.TheVariants.{Enter};
 
-use crate::fault::FaultCause;
-use crate::operation::Operation;
 use crate::steps::continuation::{Continuation, Gathering, Goal, Suspension};
 use crate::steps::held::Held;
 use crate::steps::machine::{Machine, fault};
 use crate::steps::request::Request;
+use seg_meaning::{FaultCause, Operation};
 use std::alloc::Global;
 use twe_base::{Ints, MAX_ACTIVE_CALLS, Memory, Place, Stack};
 use twe_program::{Args, Decl, Expr, Prog};

@@ -1,16 +1,14 @@
 //! Continuation frames: what the evaluator still has to do, one frame for each thing.
 ghost use Rattle.std.specs.Prelude.{◌≡◌, ℤ, List};
-ghost use Rattle.seg_exec.specs.declared.active.ActiveCall.{ActiveCall};
+ghost use Rattle.seg_meaning.specs.declared.active.ActiveCall.{ActiveCall};
 ghost use Rattle.seg_exec.specs.inner.steps.Calls.{calls_above, calls_with};
 ghost use Rattle.seg_exec.specs.inner.steps.Continuations as continuations;
 ghost use Rattle.seg_exec.specs.inner.steps.Steps.{recovered_from};
 ghost use Rattle.seg_exec.specs.inner.steps.Views.{callers_below, callers_past, calls_past, continuation_of, recovery_of};
 ghost use Rattle.seg_exec.specs.inner.steps.Views.{returning_below, returning_past};
 
-use crate::active::ActiveCall;
-use crate::frame::Position;
-use crate::operation::Operation;
 use crate::steps::held::Held;
+use seg_meaning::{ActiveCall, Operation, Position};
 use twe_base::{Ints, Place, Stack};
 use twe_program::{Arm, BinOp, Block, Expr, Stmt};
 

@@ -2,9 +2,9 @@
 ghost use Rattle.std.specs.Prelude.{◌≡◌, [], ◌∷◌, length, IfOk, OnOk, MatchOption};
 ghost use Rattle.seg_exec.specs.inner.steps.Calls.{calls_of};
 
-use crate::active::ActiveCall;
 use crate::steps::continuation::Continuation;
 use crate::steps::pushdown::Pushdown;
+use seg_meaning::ActiveCall;
 use std::alloc::Global;
 use std::marker::Model;
 use twe_base::{List, Memory};

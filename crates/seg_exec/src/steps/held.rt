@@ -1,8 +1,8 @@
 //! A stop at a task operation, held by one pointer, so that what has one stays small.
 ghost use Rattle.std.specs.Prelude.{◌≡◌, ◌∷◌, IfOk, OnOk};
 
-use crate::frame::Position;
 use crate::steps::continuation::Suspension;
+use seg_meaning::Position;
 use std::alloc::Global;
 use std::marker::Model;
 use twe_base::Memory;

@@ -6,12 +6,12 @@ ghost use Rattle.seg_exec.specs.declared.steps.request.Request.TheVariants.{End}
 ghost use Rattle.seg_exec.specs.declared.steps.request.Ending.TheVariants.{Faulted};
 ghost use Rattle.seg_exec.specs.inner.steps.Views.{config_of, config_with, use_of};
 
-use crate::fault::FaultCause;
 use crate::steps::continuation::{Continuation, OpenBlock, ValueUse};
 use crate::steps::frames::Frames;
 use crate::steps::pushdown::Pushdown;
 use crate::steps::request::{Ending, Request};
 use crate::steps::variables::Variables;
+use seg_meaning::FaultCause;
 use twe_base::{Memory, Place};
 use twe_program::Expr;
 

@@ -1,15 +1,15 @@
 //! The execution of statements that call a method, make a task or wait for one.
 ghost use Rattle.std.specs.Prelude.{◌≡◌, [], IfOk};
-ghost use Rattle.seg_exec.specs.declared.operation.Operation.TheVariants.{Wait};
+ghost use Rattle.seg_meaning.specs.declared.operation.Operation.TheVariants.{Wait};
 ghost use Rattle.seg_exec.specs.declared.steps.continuation.Goal.TheVariants.{Enter, Make};
 ghost use Rattle.seg_exec.specs.inner.steps.Continuations.{Discard, Gather, Suspend, to_do};
 ghost use Rattle.seg_exec.specs.inner.steps.Steps.{asked_unit, on};
 ghost use Rattle.seg_exec.specs.inner.steps.Views.{config_of};
 
-use crate::operation::Operation;
 use crate::steps::continuation::{Continuation, Goal, ValueUse};
 use crate::steps::machine::Machine;
 use crate::steps::request::Request;
+use seg_meaning::Operation;
 use std::alloc::Global;
 use twe_base::{Memory, Place};
 use twe_program::Args;

@@ -1,7 +1,7 @@
 //! What one step of the evaluator requests from whoever runs it, and how a run ends.
 
-use crate::fault::FaultCause;
 use crate::steps::held::Held;
+use seg_meaning::FaultCause;
 use twe_base::Place;
 
 /// How a run of the evaluator ends.

@@ -1,6 +1,6 @@
 //! How blocks, arms and loops continue, and how a body is left.
 ghost use Rattle.std.specs.Prelude.{◌≡◌, IfOk, drop, pos};
-ghost use Rattle.seg_exec.specs.declared.active.ActiveCall.{ActiveCall};
+ghost use Rattle.seg_meaning.specs.declared.active.ActiveCall.{ActiveCall};
 ghost use Rattle.twe_program.specs.Statement.{statements_of};
 ghost use Rattle.twe_program.specs.inner.StatementView.{arms_of};
 ghost use Rattle.seg_exec.specs.declared.steps.continuation.Continuation.TheVariants.{Leave};
@@ -10,11 +10,11 @@ ghost use Rattle.seg_exec.specs.inner.steps.Steps.{back_with, chosen_next, choos
 ghost use Rattle.seg_exec.specs.inner.steps.Views.{config_of, config_under};
 
 use crate::arithmetic::is_true;
-use crate::fault::FaultCause;
 use crate::steps::continuation::{Continuation, Recovered, ValueUse};
 use crate::steps::held::Held;
 use crate::steps::machine::{Machine, fault};
 use crate::steps::request::{Ending, Request};
+use seg_meaning::FaultCause;
 use twe_base::{Memory, Place};
 use twe_program::{Arm, Block, Stmt, StmtKind};
 

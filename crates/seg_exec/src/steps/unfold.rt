@@ -1,13 +1,13 @@
 //! How the positions of a body are turned back into a continuation.
 ghost use Rattle.std.specs.Prelude.{◌≡◌, IfOk, drop, option_copied, slice_get};
 ghost use Rattle.twe_program.specs.Statement.{statements_of};
-ghost use Rattle.seg_exec.specs.Remaining.{block_at, block_of, branch_of, last_of_first};
+ghost use Rattle.seg_meaning.specs.Remaining.{block_at, block_of, branch_of, last_of_first};
 ghost use Rattle.seg_exec.specs.inner.steps.Unfolded.{again_in, with_unfolded};
 ghost use Rattle.seg_exec.specs.inner.steps.Views.{config_of};
 
-use crate::frame::Position;
 use crate::steps::continuation::Continuation;
 use crate::steps::machine::Machine;
+use seg_meaning::Position;
 use twe_base::Memory;
 use twe_program::{Arm, Arms, Block, Stmt, StmtKind};
 

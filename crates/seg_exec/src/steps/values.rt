@@ -1,6 +1,6 @@
 //! The continuation frames that use values of the operand stack.
 ghost use Rattle.std.specs.Prelude.{◌≡◌, IfOk};
-ghost use Rattle.seg_exec.specs.Arithmetic.{negation, negative};
+ghost use Rattle.seg_meaning.specs.Arithmetic.{negation, negative};
 ghost use Rattle.seg_exec.specs.inner.steps.Continuations.{top, with_operand, without_operand};
 ghost use Rattle.seg_exec.specs.inner.steps.Steps.{applying, giving_element, giving_grid_element, giving_var};
 ghost use Rattle.seg_exec.specs.inner.steps.Steps.{on, printing, reading_element, reading_grid_element, righting};
@@ -8,10 +8,10 @@ ghost use Rattle.seg_exec.specs.inner.steps.Views.{config_of};
 
 use crate::arithmetic::{decide, invert, is_true, negate, operate};
 use crate::elements::{element_number, grid_element_number};
-use crate::fault::FaultCause;
 use crate::steps::continuation::{Continuation, ValueUse};
 use crate::steps::machine::{Machine, fault};
 use crate::steps::request::Request;
+use seg_meaning::FaultCause;
 use twe_base::{Memory, Place};
 use twe_program::{BinOp, Expr, Prog};
 

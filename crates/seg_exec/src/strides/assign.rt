@@ -1,14 +1,13 @@
 //! Assignments whose expressions call no method, carried out at once.
 ghost use Rattle.std.specs.Prelude.{◌≡◌, slice_set};
-ghost use Rattle.seg_exec.specs.Access.{ways_of};
+ghost use Rattle.seg_meaning.specs.Access.{ways_of};
 ghost use Rattle.seg_exec.specs.inner.steps.Bodies.{with_active};
 ghost use Rattle.seg_exec.specs.inner.strides.Assignments.{Does, MayDo, MayWriteAt, Stays, WritesAt, executing, to_element, to_target};
 
-use crate::cells::Cells;
 use crate::elements::{cell_number, element_number};
-use crate::fault::FaultCause;
 use crate::steps::variables::Variables;
 use crate::strides::value::{Fault, value_of};
+use seg_meaning::{Cells, FaultCause};
 use twe_base::Place;
 use twe_program::{Expr, Prog, Stmt, StmtKind};
 

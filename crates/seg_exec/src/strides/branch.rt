@@ -2,13 +2,12 @@
 ghost use Rattle.std.specs.Prelude.{IfOk, drop};
 ghost use Rattle.twe_program.specs.Statement.{statements_of};
 ghost use Rattle.twe_program.specs.inner.StatementView.{arms_of};
-ghost use Rattle.seg_exec.specs.Access.{ways_of};
+ghost use Rattle.seg_meaning.specs.Access.{ways_of};
 ghost use Rattle.seg_exec.specs.inner.steps.Continuations.{Choose, Rest};
 ghost use Rattle.seg_exec.specs.inner.steps.Reached.{standing};
 ghost use Rattle.seg_exec.specs.inner.strides.Moving.{Passes};
 ghost use Rattle.seg_exec.specs.inner.strides.Strides.{MayGo, doing};
 
-use crate::cells::Cells;
 use crate::steps::continuation::{Continuation, OpenBlock};
 use crate::steps::machine::Machine;
 use crate::strides::choose::choose;
@@ -16,6 +15,7 @@ use crate::strides::give::give;
 use crate::strides::onward::Onward;
 use crate::strides::pick::{Picked, pick};
 use crate::strides::plain::plain_return;
+use seg_meaning::Cells;
 use std::alloc::Global;
 use twe_base::{Ints, Memory};
 use twe_program::{Arm, Arms, Block, Prog, Stmt};

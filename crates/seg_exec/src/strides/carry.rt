@@ -1,12 +1,12 @@
 //! Assignments of a block, carried out one after another.
 ghost use Rattle.std.specs.Prelude.{◌≡◌};
-ghost use Rattle.seg_exec.specs.Access.{ways_of};
+ghost use Rattle.seg_meaning.specs.Access.{ways_of};
 ghost use Rattle.seg_exec.specs.inner.strides.Carrying.{CarriesOut, MayCarry};
 
-use crate::cells::Cells;
 use crate::steps::variables::Variables;
 use crate::strides::assign::{Carried, assign};
 use crate::strides::value::Fault;
+use seg_meaning::Cells;
 use twe_program::{Prog, Stmt};
 
 /// How far the statements of a block were carried out.

@@ -5,12 +5,12 @@ ghost use Rattle.seg_exec.specs.inner.steps.Continuations.{Choose};
 ghost use Rattle.seg_exec.specs.inner.strides.Moving.{MovesOn};
 ghost use Rattle.seg_exec.specs.inner.strides.Strides.{MayStride};
 
-use crate::cells::Cells;
 use crate::steps::continuation::ValueUse;
 use crate::steps::machine::Machine;
 use crate::strides::evaluate::evaluate_then;
 use crate::strides::onward::Onward;
 use crate::strides::serve::serve;
+use seg_meaning::Cells;
 use std::alloc::Global;
 use twe_base::{Ints, Memory};
 use twe_program::{Arm, Arms, Block, Prog};

@@ -6,16 +6,16 @@ ghost use Rattle.seg_exec.specs.inner.steps.Views.{use_of};
 ghost use Rattle.twe_program.specs.Expression.{is_plain};
 ghost use Rattle.seg_exec.specs.inner.strides.Moving.{Moves, MovesOn, course};
 ghost use Rattle.seg_exec.specs.inner.strides.Strides.{MayGo, MayStride, doing};
-ghost use Rattle.seg_exec.specs.Access.{ways_of};
+ghost use Rattle.seg_meaning.specs.Access.{ways_of};
 
 use crate::arithmetic::{decide, is_true};
-use crate::cells::Cells;
 use crate::steps::continuation::{Continuation, ValueUse};
 use crate::steps::machine::Machine;
 use crate::strides::gather::call;
 use crate::strides::onward::Onward;
 use crate::strides::serve::{serve, use_value};
 use crate::strides::value::value_of;
+use seg_meaning::Cells;
 use std::alloc::Global;
 use twe_base::{Ints, Memory, Place};
 use twe_program::{BinOp, Expr, ExprKind, Prog};

@@ -1,129 +1,37 @@
-//! The arguments of a call that call no method, evaluated at once.
-ghost use Rattle.std.specs.Prelude.{◌≡◌, ◌≤◌, [], IfOk, drop, length, option_copied};
+//! Gathering the values of arguments, for a method that is called or for a task that is made.
+//!
+//! Those that call no method are evaluated in place (`arguments`), and their values are the variables of the active body after the
+//! first `count`, which are those of the body that calls. In `f(x, 2, g(y), 3)` with `x = 5`:
+//!
+//! 1. `call` evaluates `x` and 2 in place. At `g(y)`, `begin_argument` moves 5 and 2 into a frame `Take` with what is left, 3, and
+//!    the evaluation of `g(y)` comes next.
+//! 2. Once `g` has returned 7, `take` pushes 5, 2 and 7 after the variables again, and evaluates 3 in place.
+//! 3. All have values, so `use_arguments` enters `f`, whose first variables are 5, 2, 7 and 3.
+//!
+//! If no argument calls a method, as in `f(x, 2)`, no frame is made and no value is moved.
+ghost use Rattle.std.specs.Prelude.{◌≤◌, [], IfOk, length};
 ghost use Rattle.twe_program.specs.Expression.{argument, arguments_of, no_more};
-ghost use Rattle.seg_exec.specs.declared.steps.continuation.Goal.TheVariants.{Enter};
+ghost use Rattle.seg_exec.specs.declared.steps.continuation.Goal.TheVariants.{Enter, Make};
 ghost use Rattle.seg_exec.specs.inner.steps.Continuations.{Gather, Take};
-ghost use Rattle.seg_exec.specs.inner.steps.Steps.{entering, faulted};
-ghost use Rattle.seg_exec.specs.inner.steps.Views.{config_before, config_of};
-ghost use Rattle.seg_exec.specs.inner.strides.Moving.{Moves, MovesOn, gathering_from, step_on, course};
+ghost use Rattle.seg_exec.specs.inner.strides.Moving.{Moves, MovesOn, course, gathering_from};
 ghost use Rattle.seg_exec.specs.inner.strides.Strides.{MayGo, MayStride};
-ghost use Rattle.seg_exec.specs.inner.strides.Taking.{MayTake, Takes};
 ghost use Rattle.seg_exec.specs.inner.steps.Reached.{standing};
-ghost use Rattle.seg_exec.specs.Access.{ways_of};
+ghost use Rattle.seg_meaning.specs.Access.{ways_of};
 
-use crate::active::ActiveCall;
-use crate::body::{start, statements};
-use crate::cells::Cells;
-use crate::fault::FaultCause;
-use crate::operation::Operation;
-use crate::steps::continuation::{Continuation, Gathering, Goal, OpenBlock};
+use crate::steps::continuation::{Gathering, Goal};
 use crate::steps::machine::Machine;
-use crate::steps::request::Ending;
+use crate::strides::arguments::{Evaluated, evaluate_plain};
+use crate::strides::enter::enter;
 use crate::strides::onward::Onward;
 use crate::strides::serve::serve;
-use crate::strides::value::{Fault, value_of};
+use seg_meaning::{ActiveCall, Cells, Operation};
 use std::alloc::Global;
-use twe_base::{Ints, MAX_ACTIVE_CALLS, Memory, Place};
-use twe_program::{Args, Decl, Expr, Prog};
+use twe_base::{Ints, Memory, Place};
+use twe_program::{Args, Expr, Prog};
 
-/// How far the arguments of a call have values.
-#[derive(Clone, Copy, Debug)]
-enum Taken<'a> {
-    /// All of them have values.
-    All,
-    /// Those before one that calls a method have values.
-    Left {
-        /// The one that calls a method.
-        first: &'a Expr,
-        /// Those after it.
-        others: &'a [Expr],
-    },
-    /// One met a fault. The values of those before it are dropped.
-    Faulted(Fault),
-}
-
-/// Evaluates the arguments up to the first that calls a method. The values of those before them are the variables of the active
-/// body after the first `count`, and so are theirs.
+/// Does what the arguments are for, once all of them have values: enters a method, or stops at the making of a task.
 #[inline(always)]
-fn take_plain<'a, C: Cells>(
-    p: &Prog,
-    machine: &mut Machine<'_>,
-    cells: &mut C,
-    count: usize,
-    args: &'a [Expr],
-) -> Result<Taken<'a>, Memory>
-    requires within { count ≤ length machine.old.vars.active }
-    requires may { MayTake p.now (ways_of C.known C.may_read C.may_write C.rule) count (arguments_of args.now)
-        machine.old cells.old }
-    ensures { IfOk result (λ taken. Takes p.now (ways_of C.known C.may_read C.may_write C.rule) count args.now
-        machine.old cells.old taken machine.new cells.new) }
-{
-    let mut next = 0;
-    while next < args.len() {
-        let first = &args[next];
-        if !first.is_plain() {
-            let others = &args[next + 1..];
-            return Ok(Taken::Left { first, others });
-        }
-        match value_of(first, p, machine.vars.first(count), cells) {
-            Err(fault) => {
-                machine.vars.truncate(count);
-                return Ok(Taken::Faulted(fault));
-            }
-            Ok(value) => machine.vars.push(value)?,
-        }
-        next += 1;
-    }
-    Ok(Taken::All)
-}
-
-/// Ends the run with a fault, and drops the values of the arguments.
-#[inline(always)]
-fn refuse(machine: &mut Machine<'_>, count: usize, cause: FaultCause, place: Place) -> Onward
-    requires { count ≤ length machine.old.vars.active }
-    ensures { step_on (course result machine.new) (config_of machine.new)
-        ≡ faulted cause place (config_before count machine.old) }
-{
-    machine.vars.truncate(count);
-    machine.ending = Some(Ending::Faulted { cause, place });
-    Onward::End
-}
-
-/// Enters the method of a call, which takes a unit of fuel: its body comes next. Its arguments are the variables of the active
-/// body after the first `count`. It is a fault if no fuel is left, or if `MAX_ACTIVE_CALLS` calls are active already.
-#[inline(always)]
-fn enter<'a>(
-    machine: &mut Machine<'a>,
-    decl: Option<&'a Decl>,
-    count: usize,
-    call: ActiveCall,
-) -> Result<Onward, Memory>
-    requires { count ≤ length machine.old.vars.active }
-    ensures { IfOk result (λ onward. step_on (course onward machine.new) (config_of machine.new)
-        ≡ entering (option_copied decl.entry) (drop count machine.old.vars.active) call (config_before count machine.old)) }
-{
-    if machine.fuel == 0 {
-        return Ok(refuse(machine, count, FaultCause::Fuel, call.place));
-    }
-    machine.fuel -= 1;
-    if machine.work.calls() >= MAX_ACTIVE_CALLS as usize {
-        return Ok(refuse(machine, count, FaultCause::Depth, call.place));
-    }
-    machine.vars.enter(count);
-    start(decl, &mut machine.vars)?;
-    machine.push(Continuation::Leave { count, call })?;
-    machine.open = OpenBlock {
-        block: 0,
-        at: 0,
-        stmts: statements(decl),
-    };
-    Ok(Onward::Enter)
-}
-
-/// Does what the arguments are for, once all of them have values: enters a method, or stops at the making of a task. The values
-/// are the variables of the active body after the first `count`.
-#[inline(always)]
-fn gathered<'a, C: Cells>(
+fn use_arguments<'a, C: Cells>(
     alloc: Global,
     p: &'a Prog,
     machine: &mut Machine<'a>,
@@ -164,10 +72,10 @@ fn gathered<'a, C: Cells>(
     }
 }
 
-/// Goes on to an argument that calls a method. The values of those before it are the variables of the active body after the first
-/// `count`. It stands apart, so that a call whose arguments call nothing stays small.
+/// Begins an argument that calls a method, and stores what is known and what is left until its value is there. It is not inlined,
+/// so that the code of a call whose arguments call nothing stays small.
 #[inline(never)]
-fn ask<'a, C: Cells>(
+fn begin_argument<'a, C: Cells>(
     alloc: Global,
     p: &'a Prog,
     machine: &mut Machine<'a>,
@@ -191,8 +99,7 @@ fn ask<'a, C: Cells>(
     serve(machine, cells, prints, request)
 }
 
-/// Evaluates the arguments up to the first that calls a method, and then makes the next step. The values of those before them
-/// are the variables of the active body after the first `count`.
+/// Evaluates the arguments up to the first that calls a method and begins that one. If all have values, uses them.
 #[inline(always)]
 fn gather<'a, C: Cells>(
     alloc: Global,
@@ -211,20 +118,20 @@ fn gather<'a, C: Cells>(
         (gathering_from count (arguments_of args.now) goal machine.old cells.old prints.old)
         (course onward machine.new) (standing machine.new cells.new prints.new)) }
 {
-    let taken = take_plain(p, machine, cells, count, args)?;
-    match taken {
-        Taken::All => gathered(alloc, p, machine, cells, prints, count, goal),
-        Taken::Left { first, others } => {
-            ask(alloc, p, machine, cells, prints, count, first, others, goal)
+    let evaluated = evaluate_plain(p, machine, cells, count, args)?;
+    match evaluated {
+        Evaluated::All => use_arguments(alloc, p, machine, cells, prints, count, goal),
+        Evaluated::Left { first, others } => {
+            begin_argument(alloc, p, machine, cells, prints, count, first, others, goal)
         }
-        Taken::Faulted(fault) => {
+        Evaluated::Faulted(fault) => {
             machine.ending = Some(fault.ending());
             Ok(Onward::End)
         }
     }
 }
 
-/// Evaluates the arguments that have no value yet as far as they call no method.
+/// Evaluates the arguments after those that have values, up to the first that calls a method.
 pub(crate) fn gather_more<'a, C: Cells>(
     alloc: Global,
     p: &'a Prog,
@@ -245,7 +152,7 @@ pub(crate) fn gather_more<'a, C: Cells>(
     gather(alloc, p, machine, cells, prints, count, args, goal)
 }
 
-/// Takes the value of an argument, and evaluates those after it as far as they call no method.
+/// Takes the latest value as that of an argument, and evaluates those after it, up to the first that calls a method.
 pub(crate) fn take<'a, C: Cells>(
     alloc: Global,
     p: &'a Prog,
@@ -267,7 +174,8 @@ pub(crate) fn take<'a, C: Cells>(
     gather(alloc, p, machine, cells, prints, count, args, goal)
 }
 
-/// Evaluates the arguments of a call as far as they call no method; if all have values, enters the method.
+/// Evaluates the arguments of a call, up to the first that calls a method. If all have values, enters the method at once: unlike
+/// `gather` it builds no goal for that.
 #[inline(always)]
 pub(crate) fn call<'a, C: Cells>(
     alloc: Global,
@@ -285,38 +193,47 @@ pub(crate) fn call<'a, C: Cells>(
         machine.old cells.old prints.old machine.new cells.new prints.new) }
 {
     let count = machine.vars.len();
-    let taken = take_plain(p, machine, cells, count, args.items.as_slice())?;
-    match taken {
-        Taken::All => {
+    let evaluated = evaluate_plain(p, machine, cells, count, args.items.as_slice())?;
+    match evaluated {
+        Evaluated::All => {
             let call = ActiveCall { method, place };
             enter(machine, p.methods.get(method as usize), count, call)
         }
-        Taken::Left { first, others } => {
+        Evaluated::Left { first, others } => {
             let goal = Goal::Enter { method, place };
-            ask(alloc, p, machine, cells, prints, count, first, others, goal)
+            begin_argument(alloc, p, machine, cells, prints, count, first, others, goal)
         }
-        Taken::Faulted(fault) => {
+        Evaluated::Faulted(fault) => {
             machine.ending = Some(fault.ending());
             Ok(Onward::End)
         }
     }
 }
 
-/// Evaluates the arguments of a task that is made, as far as they call no method; if all have values, stops at the making.
+/// Evaluates the arguments of a task that is made, up to the first that calls a method. If all have values, stops at the making.
 pub(crate) fn make<'a, C: Cells>(
     alloc: Global,
     p: &'a Prog,
     machine: &mut Machine<'a>,
     cells: &mut C,
     prints: &mut Ints,
+    future: u32,
+    task: u32,
     args: &'a Args,
-    goal: Goal,
+    spawned: bool,
+    place: Place,
 ) -> Result<Onward, Memory>
-    requires { MayStride p.now C.known C.may_read C.may_write C.rule (Gather [] args.now goal)
+    requires { MayStride p.now C.known C.may_read C.may_write C.rule (Gather [] args.now (Make future task spawned place))
         machine.old cells.old prints.old }
-    ensures { IfOk result (MovesOn p.now C.known C.may_read C.may_write C.rule (Gather [] args.now goal)
+    ensures { IfOk result (MovesOn p.now C.known C.may_read C.may_write C.rule (Gather [] args.now (Make future task spawned place))
         machine.old cells.old prints.old machine.new cells.new prints.new) }
 {
+    let goal = Goal::Make {
+        future,
+        task,
+        spawned,
+        place,
+    };
     let count = machine.vars.len();
     let args = args.items.as_slice();
     gather(alloc, p, machine, cells, prints, count, args, goal)

@@ -1,18 +1,18 @@
 //! The return of a value from a body.
 ghost use Rattle.std.specs.Prelude.{◌≡◌, true, IfOk, drop};
 ghost use Rattle.twe_program.specs.Statement.{statements_of};
-ghost use Rattle.seg_exec.specs.Access.{ways_of};
+ghost use Rattle.seg_meaning.specs.Access.{ways_of};
 ghost use Rattle.seg_exec.specs.inner.steps.Continuations.{Evaluate, Rest, Unwind};
 ghost use Rattle.seg_exec.specs.inner.steps.Reached.{standing};
 ghost use Rattle.seg_exec.specs.inner.strides.Moving.{Moves, course};
 ghost use Rattle.twe_program.specs.Expression.{is_plain};
 ghost use Rattle.seg_exec.specs.inner.strides.Strides.{MayGo, doing};
 
-use crate::cells::Cells;
 use crate::steps::machine::Machine;
 use crate::strides::onward::Onward;
 use crate::strides::serve::leave_with;
 use crate::strides::value::value_of;
+use seg_meaning::Cells;
 use twe_base::{Ints, Memory};
 use twe_program::{Expr, Prog, Stmt};
 

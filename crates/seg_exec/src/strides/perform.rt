@@ -1,14 +1,13 @@
 //! What a continuation frame is for, done in one step or in several.
 ghost use Rattle.std.specs.Prelude.{◌+◌, ◌<◌, IfOk, drop, length};
 ghost use Rattle.twe_program.specs.Statement.{statements_of};
-ghost use Rattle.seg_exec.specs.inner.steps.Continuations.{Execute, Rest};
+ghost use Rattle.seg_exec.specs.inner.steps.Continuations.{Evaluate, Execute, GiveVar, Rest};
 ghost use Rattle.seg_exec.specs.inner.strides.Moving.{Moves, MovesOn, Passes, course};
 ghost use Rattle.seg_exec.specs.inner.strides.Strides.{MayGo, MayStride, doing};
 ghost use Rattle.seg_exec.specs.inner.steps.Reached.{standing, standing_with};
-ghost use Rattle.seg_exec.specs.Access.{ways_of};
+ghost use Rattle.seg_meaning.specs.Access.{ways_of};
 
-use crate::cells::Cells;
-use crate::steps::continuation::{Continuation, Gathering, Goal, ValueUse};
+use crate::steps::continuation::{Continuation, Gathering, ValueUse};
 use crate::steps::machine::Machine;
 use crate::strides::branch::branch;
 use crate::strides::carry::{CarriedOut, carry_out};
@@ -19,11 +18,12 @@ use crate::strides::onward::Onward;
 use crate::strides::return_value::{apply_then_return, return_value, right_then_return};
 use crate::strides::serve::{serve, use_value};
 use crate::strides::turn::turn;
+use seg_meaning::Cells;
 use std::alloc::Global;
 use twe_base::{Ints, Memory};
-use twe_program::{Prog, Stmt, StmtKind};
+use twe_program::{Expr, Prog, Stmt, StmtKind};
 
-/// Executes a statement as far as its expressions call no method.
+/// Executes a statement that is no loop as far as its expressions call no method. Of a loop it makes the first step.
 #[inline(always)]
 fn execute<'a, C: Cells>(
     alloc: Global,
@@ -38,29 +38,11 @@ fn execute<'a, C: Cells>(
         machine.new cells.new prints.new) }
 {
     match &stmt.kind {
-        StmtKind::Let { var, value } => {
-            let then = ValueUse::GiveVar(*var);
-            evaluate_then(alloc, p, machine, cells, prints, value, &then)
-        }
-        StmtKind::Set { var, value } => {
-            let then = ValueUse::GiveVar(*var);
-            evaluate_then(alloc, p, machine, cells, prints, value, &then)
-        }
+        StmtKind::Let { var, value } => give_var(alloc, p, machine, cells, prints, *var, value),
+        StmtKind::Set { var, value } => give_var(alloc, p, machine, cells, prints, *var, value),
         StmtKind::SetCell { cell, value, .. } => {
             let then = ValueUse::GiveCell(*cell);
             evaluate_then(alloc, p, machine, cells, prints, value, &then)
-        }
-        StmtKind::While {
-            condition,
-            body,
-            place,
-        } => {
-            let then = ValueUse::Turn {
-                again: stmt,
-                body,
-                place: *place,
-            };
-            evaluate_then(alloc, p, machine, cells, prints, condition, &then)
         }
         StmtKind::If(arms) => choose_first(alloc, p, machine, cells, prints, arms),
         StmtKind::Return(Some(value)) => { return_value(alloc, p, machine, cells, prints, value) }
@@ -75,20 +57,35 @@ fn execute<'a, C: Cells>(
             spawned,
             place,
             ..
-        } => {
-            let goal = Goal::Make {
-                future: *future,
-                task: *task,
-                spawned: *spawned,
-                place: *place,
-            };
-            make(alloc, p, machine, cells, prints, args, goal)
-        }
+        } => make(
+            alloc, p, machine, cells, prints, *future, *task, args, *spawned, *place,
+        ),
         _ => {
             let request = machine.execute(alloc, stmt)?;
             serve(machine, cells, prints, request)
         }
     }
+}
+
+/// Evaluates an expression as far as it calls no method; its value is assigned to a variable.
+#[inline(always)]
+fn give_var<'a, C: Cells>(
+    alloc: Global,
+    p: &'a Prog,
+    machine: &mut Machine<'a>,
+    cells: &mut C,
+    prints: &mut Ints,
+    var: u32,
+    value: &'a Expr,
+) -> Result<Onward, Memory>
+    requires { MayGo p.now (ways_of C.known C.may_read C.may_write C.rule)
+        (doing (Evaluate value.now) (doing (GiveVar var) (standing machine.old cells.old prints.old))) }
+    ensures { IfOk result (λ onward. Moves p.now (ways_of C.known C.may_read C.may_write C.rule)
+        (doing (Evaluate value.now) (doing (GiveVar var) (standing machine.old cells.old prints.old)))
+        (course onward machine.new) (standing machine.new cells.new prints.new)) }
+{
+    let then = ValueUse::GiveVar(var);
+    evaluate_then(alloc, p, machine, cells, prints, value, &then)
 }
 
 /// Executes a statement as far as its expressions call no method; a loop up to its first turn.

@@ -1,11 +1,11 @@
 //! The branch of an `if`: that of the first arm whose condition is true, or the last `else`.
-ghost use Rattle.seg_exec.specs.Access.{ways_of};
+ghost use Rattle.seg_meaning.specs.Access.{ways_of};
 ghost use Rattle.seg_exec.specs.inner.strides.Assignments.{MayDo};
 ghost use Rattle.seg_exec.specs.inner.strides.Picking.{Picks, choosing_first};
 
 use crate::arithmetic::is_true;
-use crate::cells::Cells;
 use crate::strides::value::{Fault, value_of};
+use seg_meaning::Cells;
 use twe_program::{Arm, Block, Prog};
 
 /// Which branch of an `if` is executed.

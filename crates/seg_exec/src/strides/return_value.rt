@@ -1,6 +1,6 @@
 //! The return of the value of an expression from a body. That of an operator whose operands call methods takes one frame.
 ghost use Rattle.std.specs.Prelude.{◌≡◌, true, IfOk};
-ghost use Rattle.seg_exec.specs.Access.{ways_of};
+ghost use Rattle.seg_meaning.specs.Access.{ways_of};
 ghost use Rattle.seg_exec.specs.inner.steps.Continuations.{Apply, Evaluate, Right, Unwind};
 ghost use Rattle.seg_exec.specs.inner.steps.Reached.{standing};
 ghost use Rattle.seg_exec.specs.inner.strides.Moving.{Moves, course};
@@ -8,8 +8,6 @@ ghost use Rattle.twe_program.specs.Expression.{is_plain};
 ghost use Rattle.seg_exec.specs.inner.strides.Strides.{MayGo, doing};
 
 use crate::arithmetic::{decide, is_true, operate};
-use crate::cells::Cells;
-use crate::fault::FaultCause;
 use crate::steps::continuation::{Continuation, ValueUse};
 use crate::steps::machine::Machine;
 use crate::steps::request::Ending;
@@ -17,6 +15,7 @@ use crate::strides::evaluate::{begin, begin_one, operand};
 use crate::strides::onward::Onward;
 use crate::strides::serve::leave_with;
 use crate::strides::value::value_of;
+use seg_meaning::{Cells, FaultCause};
 use std::alloc::Global;
 use twe_base::{Ints, Memory, Place};
 use twe_program::{BinOp, Expr, ExprKind, Prog};

@@ -3,14 +3,14 @@ ghost use Rattle.std.specs.Prelude.{IfOk};
 ghost use Rattle.seg_exec.specs.inner.steps.Reached.{Finishes, MayGoOn, standing};
 ghost use Rattle.seg_exec.specs.inner.strides.Moving.{Moves, ahead, course};
 ghost use Rattle.seg_exec.specs.inner.strides.Strides.{MayGo};
-ghost use Rattle.seg_exec.specs.Access.{ways_of};
+ghost use Rattle.seg_meaning.specs.Access.{ways_of};
 
-use crate::cells::Cells;
 use crate::steps::continuation::OpenBlock;
 use crate::steps::machine::Machine;
 use crate::steps::request::Ending;
 use crate::strides::onward::Onward;
 use crate::strides::perform::{go_on, perform};
+use seg_meaning::Cells;
 use std::alloc::Global;
 use std::mem;
 use twe_base::{Ints, Memory};

@@ -5,13 +5,13 @@ ghost use Rattle.seg_exec.specs.inner.steps.Reached.{MayRequest, standing};
 ghost use Rattle.seg_exec.specs.inner.steps.Views.{use_of};
 ghost use Rattle.seg_exec.specs.inner.strides.Moving.{Moves, MovesOn, Serves, course};
 ghost use Rattle.seg_exec.specs.inner.strides.Strides.{MayGo, MayStride, doing, holding};
-ghost use Rattle.seg_exec.specs.Access.{ways_of};
+ghost use Rattle.seg_meaning.specs.Access.{ways_of};
 
-use crate::cells::Cells;
 use crate::steps::continuation::ValueUse;
 use crate::steps::machine::Machine;
 use crate::steps::request::Request;
 use crate::strides::onward::Onward;
+use seg_meaning::Cells;
 use twe_base::{Ints, Memory};
 use twe_program::Prog;
 

@@ -1,6 +1,6 @@
 //! The turns of a loop.
 ghost use Rattle.std.specs.Prelude.{◌≡◌, true, IfOk};
-ghost use Rattle.seg_exec.specs.Access.{ways_of};
+ghost use Rattle.seg_meaning.specs.Access.{ways_of};
 ghost use Rattle.seg_exec.specs.inner.steps.Reached.{standing};
 ghost use Rattle.seg_exec.specs.inner.strides.Moving.{Moves, course};
 ghost use Rattle.twe_program.specs.Expression.{is_plain};
@@ -8,8 +8,6 @@ ghost use Rattle.seg_exec.specs.inner.strides.Strides.{MayGo};
 ghost use Rattle.seg_exec.specs.inner.strides.Turning.{IsLoop, Turns, looping};
 
 use crate::arithmetic::is_true;
-use crate::cells::Cells;
-use crate::fault::FaultCause;
 use crate::steps::continuation::{Continuation, OpenBlock, ValueUse};
 use crate::steps::machine::Machine;
 use crate::steps::request::Ending;
@@ -17,6 +15,7 @@ use crate::strides::carry::{CarriedOut, carry_out};
 use crate::strides::evaluate::evaluate_then;
 use crate::strides::onward::Onward;
 use crate::strides::value::value_of;
+use seg_meaning::{Cells, FaultCause};
 use std::alloc::Global;
 use twe_base::{Ints, Memory, Place};
 use twe_program::{Block, Expr, Prog, Stmt};

@@ -1,16 +1,15 @@
 //! The value of an expression that calls no method, by recursion over the expression.
 ghost use Rattle.std.specs.Prelude.{◌≡◌, true, Some, slice_get};
-ghost use Rattle.seg_exec.specs.Access.{value_in, ways_of};
-ghost use Rattle.seg_exec.specs.Arithmetic.{operated};
+ghost use Rattle.seg_meaning.specs.Access.{value_in, ways_of};
+ghost use Rattle.seg_meaning.specs.Arithmetic.{operated};
 ghost use Rattle.seg_exec.specs.inner.strides.Leaves.{leaf_value, pair_value, value_on};
 ghost use Rattle.twe_program.specs.Expression.{is_plain};
 ghost use Rattle.seg_exec.specs.inner.strides.Strides.{EvaluatesTo, MayEvaluate, MayReadAt, ReadsAt, fault_ending, quotient_or};
 
 use crate::arithmetic::{decide, invert, is_true, negate, number_of, operate};
-use crate::cells::Cells;
 use crate::elements::{cell_number, element_number, grid_element_number};
-use crate::fault::FaultCause;
 use crate::steps::request::Ending;
+use seg_meaning::{Cells, FaultCause};
 use twe_base::Place;
 use twe_program::{BinOp, Expr, ExprKind, Prog};
 

@@ -4,18 +4,18 @@ use Rattle.twe_base.specs.declared.place.Place.{Place}
 use Rattle.twe_base.specs.Limits.{Bounds}
 use Rattle.twe_base.specs.declared.fault.FaultKind.{FaultKind}
 use Rattle.twe_base.specs.declared.fault.FaultKind.TheVariants.{TaskLimit}
-use Rattle.seg_exec.specs.declared.frame.Frame.{Frame}
-use Rattle.seg_exec.specs.declared.stop.Stop.{Stop}
-use Rattle.seg_exec.specs.declared.stop.Stop.TheVariants as stops
-use Rattle.seg_exec.specs.Giving.{given}
-use Rattle.seg_exec.specs.Segment.{Stopped}
-use Rattle.twe_machine.specs.Moves.{frame_without_prints, making_frame}
+use Rattle.seg_meaning.specs.declared.frame.Frame.{Frame}
+use Rattle.seg_meaning.specs.declared.stop.Stop.{Stop}
+use Rattle.seg_meaning.specs.declared.stop.Stop.TheVariants as stops
+use Rattle.seg_meaning.specs.Giving.{given}
+use Rattle.seg_meaning.specs.Segment.{Stopped}
+use Rattle.machine_state.specs.Moves.{frame_without_prints, making_frame}
 use Rattle.seq_elide.specs.declared.fail.ElideFail.{ElideFail}
 use Rattle.seq_elide.specs.declared.fail.ElideFail.TheVariants as fail
-use Rattle.seq_elide.specs.declared.progress.Progress.{Progress}
+use Rattle.determinism_laws.specs.declared.elision.progress.Progress.{Progress}
 use Rattle.seq_elide.specs.declared.turn.Turn.{Turn}
 use Rattle.seq_elide.specs.declared.turn.Turn.TheVariants as turn
-use Rattle.seq_elide.specs.Elision.{first_frame, is_child, kept_value, with_segment, with_task, with_value}
+use Rattle.determinism_laws.specs.elision.Elision.{first_frame, is_child, kept_value, with_segment, with_task, with_value}
 
 -- how a turn ends
 pub data Turned : Type 0 where

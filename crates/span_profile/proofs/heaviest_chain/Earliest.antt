@@ -1,10 +1,10 @@
 -- The earliest times of nodes: each ends as soon as its heaviest chain allows.
-use Rattle.std.proofs.Common.{◌≡◌, ◌<◌, ◌+◌, ◌⊎◌, inl, inr, ℕ, zero, suc, List, [], ◌∷◌, length, map, Option, None, Some, refl, sym, ap, ◌∙◌, subst, arith}
+use Rattle.std.proofs.Common.{◌≡◌, ◌<◌, ◌≤◌, ◌+◌, ◌⊎◌, inl, inr, ℕ, zero, suc, List, [], ◌∷◌, length, map, Option, None, Some, refl, sym, ap, ◌∙◌, subst, arith}
 use Rattle.std.specs.Prelude.{slice_get, slice_index}
 use Rattle.std.specs.Option.{option_map}
 use Rattle.std.proofs.lemmas.List.{length-map}
 use Rattle.std.proofs.lemmas.Option.{slice_get-map, slice_get_within}
-use Rattle.span_profile.specs.Timetables.{AreEarliest}
+use Rattle.schedules.specs.Timetables.{AreEarliest}
 use Rattle.span_profile.specs.declared.heaviest_chain.top.Best.{Best}
 use Rattle.span_profile.specs.declared.heaviest_chain.top.Top.{Top}
 use Rattle.span_profile.specs.heaviest_chain.BestChains.{BestChains}
@@ -12,7 +12,7 @@ use Rattle.span_profile.specs.heaviest_chain.Built.{FrontHolds, IsBest}
 use Rattle.span_profile.specs.heaviest_chain.Chains.{Leads, weight_at, weight_of_found}
 use Rattle.span_profile.specs.heaviest_chain.LastBefore.{AreLastBefore, StartsAfter}
 use Rattle.span_profile.specs.heaviest_chain.Nodes.{Node, SharesKey, weight_of}
-use Rattle.span_profile.specs.heaviest_chain.inner.Tops.{IsHighest, IsTop, best_after, best_at, start_after, weight_before, weight_of_best}
+use Rattle.span_profile.specs.heaviest_chain.inner.Tops.{IsHighest, IsNoHigher, IsTop, best_after, best_at, start_after, weight_before, weight_of_best}
 use Rattle.span_profile.proofs.heaviest_chain.Back.{found_below, no_heavier, weight_after}
 
 -- the end of a node that was found, and its start
@@ -116,6 +116,19 @@ module _ (nodes : List Node) (chains : BestChains) (h : FrontHolds nodes chains)
   after_top entry None none weight is = is
   after_top entry (Some top) is_top weight is = (is_top.has, end_at bests top.node ∙ (is_top.weight_is ∙ sym is))
 
+  -- and none before the highest is as high
+  no_lower : (node : ℕ) (top : Top) → IsNoHigher bests top node → best_at bests node ≡ top.weight → top.node ≤ node
+  no_lower node top (inl lighter) same = absurd (omega (arith, lighter, same))
+  no_lower node top (inr lower) same = lower.1
+
+  first_top : (entry : ℕ) (top : Option Top) → IsTop bests (λ before. Leads SharesKey nodes before entry) top → (weight before : ℕ) → (best_after top weight).previous ≡ Some before
+      → slice_index starts entry ≡ weight_before top → (other : ℕ) → Leads SharesKey nodes other entry → slice_index ends other ≡ slice_index starts entry → before ≤ other
+  first_top entry None none weight before is start other leads end = absurd (cc (is))
+  first_top entry (Some top) is_top weight before is start other leads end =
+      let same : top.node ≡ before = cc (is) in
+      let least = no_lower other top (is_top.highest other leads) (sym (end_at bests other) ∙ (end ∙ start)) in
+      omega (arith, same, least)
+
   previous_at : (entry : ℕ) (before : Option ℕ) → slice_get (map (λ (best : Best). best.previous) bests) entry ≡ Some before
       → (best : Best) × (slice_get bests entry ≡ Some best) × (best.previous ≡ before)
   previous_at entry before is =
@@ -137,6 +150,14 @@ module _ (nodes : List Node) (chains : BestChains) (h : FrontHolds nodes chains)
         subst (StartsAfter nodes starts ends entry)
         (sym (ap (λ (b : Best). b.previous) mine.1.best_is) ∙ (ap (λ (b : Best). b.previous) (sym one) ∙ at.2))
         (after_top entry mine.1.top mine.1.is_top mine.1.node.weight (starts_at entry less));
+    first = λ entry before other is leads end.
+        let at = previous_at entry (Some before) is in
+        let best = h.bests entry at.0 at.1 in
+        let less = slice_get_within nodes entry best.node best.there in
+        let mine = times_of entry less in
+        let one : at.0 ≡ mine.0 = cc (at.1, mine.2) in
+        first_top entry mine.1.top mine.1.is_top mine.1.node.weight before
+        (sym (ap (λ (b : Best). b.previous) mine.1.best_is) ∙ (ap (λ (b : Best). b.previous) (sym one) ∙ at.2)) (starts_at entry less) other leads end;
   }
 
   -- the same of the lists that were made

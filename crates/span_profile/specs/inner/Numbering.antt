@@ -10,7 +10,7 @@ use Rattle.twe_program.specs.declared.program.CellDecl.{CellDecl}
 use Rattle.twe_program.specs.declared.program.Dims.{Dims}
 use Rattle.twe_program.specs.Program.{Program, cell_count}
 use Rattle.isolation_laws.specs.soundness.CellPaths.{concrete, indexes_at, path_of_cell}
-use Rattle.span_profile.specs.declared.places.Places.{Places}
+use Rattle.span_profile.specs.declared.places.NumberedPaths.{NumberedPaths}
 
 -- the part that stands for an element of a concrete path
 abbrev pub part_of : ConcreteElem → Part
@@ -59,12 +59,12 @@ number_found None = 0
 number_found (Some n) = n
 
 -- the number of a cell's path, and 0 if there is no such cell
-abbrev pub place_of : Places → ℕ → ℕ
+abbrev pub place_of : NumberedPaths → ℕ → ℕ
 place_of places cell = number_found (slice_get places.cells cell)
 
 -- The numbers of cells are those of their concrete paths, and the number of `Console` is that of its path. No path has two
 -- numbers.
-pub record ArePlaces (p : Program) (places : Places) : Type 0 where
+pub record ArePlaces (p : Program) (places : NumberedPaths) : Type 0 where
   pub nodes : List (List Part)
   pub tree : IsTreeOfPaths nodes
   pub cells : (cell : ℕ) → cell < cell_count p → IsNumber nodes (place_of places cell) (parts_of (path_of_cell p cell))

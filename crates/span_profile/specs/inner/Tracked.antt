@@ -5,7 +5,7 @@ use Rattle.seg_journal.specs.declared.journal.Entry.{Entry}
 use Rattle.twe_base.specs.Limits.{Bounds}
 use Rattle.twe_program.specs.Program.{Program, cell_count}
 use Rattle.twe_machine.specs.Listings.{IsListing}
-use Rattle.twe_machine.specs.Runs.{IsRun, counted, is_fault}
+use Rattle.machine_state.specs.Runs.{IsRun, counted, is_fault}
 use Rattle.span_profile.specs.heaviest_chain.Built.{FrontHolds}
 use Rattle.span_profile.specs.heaviest_chain.Nodes.{Node}
 use Rattle.span_profile.specs.declared.profiling.Tracked.{Tracked}

@@ -1,11 +1,11 @@
 -- What is kept to find why the entries of a chain follow one another.
 use Rattle.std.specs.Prelude.{◌≡◌, ◌<◌, ◌⊎◌, ◌↔◌, ◌==◌, ℕ, ℤ, suc, Bool, true, false, List, map, Option, None, Some, IsTrue, length, slice_get}
 use Rattle.prefix_tree.specs.declared.part.Part.{Part}
-use Rattle.seg_exec.specs.Access.{Access as CellAccess, MayAll}
-use Rattle.seg_exec.specs.Plain.{list_ways}
+use Rattle.seg_meaning.specs.Access.{Access as CellAccess, MayAll}
+use Rattle.seg_meaning.specs.Plain.{list_ways}
 use Rattle.isolation_laws.specs.soundness.DeclaredNow.{access_of}
 use Rattle.twe_program.specs.Program.{Program, cell_count}
-use Rattle.twe_machine.specs.Runs.{is_done}
+use Rattle.machine_state.specs.Runs.{is_done}
 use Rattle.span_profile.specs.Reasons.{IsStepAt}
 use Rattle.span_profile.specs.Strands.{Strand, made_task}
 use Rattle.span_profile.specs.declared.deed.Deed.{Deed}
@@ -13,11 +13,11 @@ use Rattle.span_profile.specs.declared.heaviest_chain.fronts.Fronts.{Fronts}
 use Rattle.span_profile.specs.declared.heaviest_chain.key.Key.{Key}
 use Rattle.span_profile.specs.declared.heaviest_chain.key.Key.TheVariants.{Write, Access}
 use Rattle.span_profile.specs.declared.heaviest_chain.top.Top.{Top}
-use Rattle.span_profile.specs.declared.places.Places.{Places}
+use Rattle.span_profile.specs.declared.places.NumberedPaths.{NumberedPaths}
 use Rattle.span_profile.specs.declared.reasons.ChainStep.{ChainStep}
 use Rattle.span_profile.specs.declared.trail.Last.{Last}
-use Rattle.span_profile.specs.declared.trail.Trail.{Trail}
-use Rattle.span_profile.specs.declared.watched.Watched.{Watched}
+use Rattle.span_profile.specs.declared.trail.ChainTrail.{ChainTrail}
+use Rattle.span_profile.specs.declared.watched.WatchedCells.{WatchedCells}
 use Rattle.span_profile.specs.heaviest_chain.inner.Fronts.{front_at}
 use Rattle.span_profile.specs.inner.Deeds.{has_print}
 use Rattle.span_profile.specs.inner.Numbering.{ArePlaces, place_of}
@@ -40,7 +40,7 @@ key_for true place = Write place
 key_for false place = Access place
 
 -- whether the entry of this number gave what a reader of this cell asks for, or a writer
-abbrev pub gave_cell : Fronts → Places → Bool → ℕ → ℕ → Bool
+abbrev pub gave_cell : Fronts → NumberedPaths → Bool → ℕ → ℕ → Bool
 gave_cell fronts places reads number cell = gave fronts (key_for reads (place_of places cell)) number
 
 -- the first of the numbers that passes the test, if one does
@@ -51,7 +51,7 @@ IsFirstThat test cells (Some cell) =
     × ((i other : ℕ) → i < k → slice_get cells i ≡ Some other → test other ≡ false)
 
 -- The entry did this, over these cells.
-pub record IsEntryOf (p : Program) (places : Places) (deed : Deed) (watched : Watched) (strand : Strand) : Type 0 where
+pub record IsEntryOf (p : Program) (places : NumberedPaths) (deed : Deed) (watched : WatchedCells) (strand : Strand) : Type 0 where
   pub accesses : List CellAccess
   pub values : List ℤ
   pub many : length values ≡ cell_count p
@@ -60,6 +60,7 @@ pub record IsEntryOf (p : Program) (places : Places) (deed : Deed) (watched : Wa
   pub made : strand.made ≡ made_task deed.end
   pub taken : strand.taken ≡ deed.taken
   pub done : strand.done ≡ is_done deed.end
+  pub cells : strand.cells ≡ accesses
   pub are : strand.accesses ≡ map (access_of p) accesses
   pub printed : deed.printed ≡ has_print accesses
   pub reads : watched.reads.items ≡ (read_by accesses (no_cells (cell_count p))).items
@@ -78,7 +79,7 @@ pub record IsMarked (tree : List (List Part)) (fronts : Fronts) (number : ℕ) (
       ↔ (HasAccess tree strand true place ⊎ HasAccess tree strand false place)
 
 -- The last entry of the chain that has come, if one has, is known.
-abbrev pub IsKnownLast : List (List Part) → List Strand → Trail → Option Last → Type 0
+abbrev pub IsKnownLast : List (List Part) → List Strand → ChainTrail → Option Last → Type 0
 IsKnownLast tree strands trail None = length trail.steps ≡ 0
 IsKnownLast tree strands trail (Some last) =
     (k : ℕ) × (strand : Strand) × (length trail.steps ≡ suc k) × (slice_get trail.chain k ≡ Some last.number)
@@ -89,7 +90,7 @@ abbrev pub Ascends : List ℕ → Type 0
 Ascends chain = (i j m n : ℕ) → i < j → slice_get chain i ≡ Some m → slice_get chain j ≡ Some n → m < n
 
 -- of the entries that have come, those of the chain have their steps
-pub record IsTrail (p : Program) (tree : List (List Part)) (strands : List Strand) (trail : Trail) : Type 0 where
+pub record IsTrail (p : Program) (tree : List (List Part)) (strands : List Strand) (trail : ChainTrail) : Type 0 where
   pub low : (key : Key) (top : Top) → front_at trail.fronts key ≡ Some top
       → (top.weight ≡ top.node) × (top.node < length strands)
   pub each : (k : ℕ) (step : ChainStep) → slice_get trail.steps k ≡ Some step → IsStepAt p strands trail.chain k step

@@ -1,21 +1,21 @@
 -- Cells that record which of them were read and written, as an implementation of cells.
 use Rattle.std.specs.Prelude.{◌≡◌, ◌<◌, ℕ, ℤ, List, [], ◌∷◌, Option, length, slice_get, slice_set}
-use Rattle.seg_exec.specs.Access.{Access, Reads, Writes, Prints, value_in}
-use Rattle.span_profile.specs.declared.watched.Watched.{Watched}
+use Rattle.seg_meaning.specs.Access.{Access, Reads, Writes, Prints, value_in}
+use Rattle.span_profile.specs.declared.watched.WatchedCells.{WatchedCells}
 use Rattle.span_profile.specs.inner.Sets.{NumberSet, with_cell}
 
 -- the value of the cell, if there is one
-abbrev pub watch_knows : Watched → ℕ → Option ℤ
+abbrev pub watch_knows : WatchedCells → ℕ → Option ℤ
 watch_knows w cell = slice_get w.values cell
 
 -- there is such a cell
-pub record MayTouch (w : Watched) (cell : ℕ) : Type 0 where
+pub record MayTouch (w : WatchedCells) (cell : ℕ) : Type 0 where
   pub value : cell < length w.values
   pub read : cell < w.reads.size
   pub written : cell < w.writes.size
 
 -- a read adds the cell to those that were read, a write gives it its value and adds it to those that were written
-abbrev pub WatchFollows : Watched → Access → Watched → Type 0
+abbrev pub WatchFollows : WatchedCells → Access → WatchedCells → Type 0
 WatchFollows old (Reads cell value) new =
     (new ≡ record old { reads = with_cell cell old.reads }) × (value_in (slice_get old.values cell) ≡ value)
 WatchFollows old (Writes cell value) new =

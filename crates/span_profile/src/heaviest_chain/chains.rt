@@ -1,6 +1,6 @@
 //! Chains as their nodes come, and the heaviest of them.
 ghost use Rattle.std.specs.Prelude.{◌≡◌, ◌<◌, ◌+◌, ◌++◌, ◌∷◌, [], ◌^◌, Some, IfOk, OnOk, length, map, reverse};
-ghost use Rattle.span_profile.specs.Timetables.{AreEarliest};
+ghost use Rattle.schedules.specs.Timetables.{AreEarliest};
 ghost use Rattle.span_profile.specs.heaviest_chain.Chains.{IsHeaviest, Leads, weight_at};
 ghost use Rattle.span_profile.specs.heaviest_chain.LastBefore.{AreLastBefore};
 ghost use Rattle.span_profile.specs.heaviest_chain.Nodes.{Nodes, SharesKey, weight_of};
@@ -50,7 +50,7 @@ pub struct Heaviest {
     pub starts: List<u64>,
     /// For each node the time at which it has ended then.
     pub ends: List<u64>,
-    /// For each node one that leads to it and ends as it starts, and none if it starts at 0.
+    /// For each node the first that leads to it and ends as it starts, and none if it starts at 0.
     pub before: List<Option<u64>>,
 }
 
@@ -179,7 +179,7 @@ impl Chains {
         Ok(())
     }
 
-    /// The heaviest chain of these nodes, their earliest times, and what each waits for the longest.
+    /// The heaviest chain of these nodes, their earliest times, and the first of those for which each waits the longest.
     pub fn heaviest(self, alloc: Global) -> Result<Heaviest, Memory>
         requires { IsBuilt self }
         ensures heaviest { (nodes : Nodes) → FrontHolds nodes self

@@ -6,7 +6,7 @@ use Rattle.effect_sets.specs.declared.effects.Effect.{Effect}
 use Rattle.effect_sets.specs.declared.effects.Summary.{Summary}
 use Rattle.effect_sets.specs.Filled.{fill_effect}
 use Rattle.effect_check.specs.declared.act.Act.{Act}
-use Rattle.effect_infer.specs.declared.needs.need.Step.{Step}
+use Rattle.effect_infer.specs.declared.needs.need.BodyStep.{BodyStep}
 use Rattle.summary_comparing.specs.Needed.{said_effect, said_spawn}
 use Rattle.summary_comparing.specs.inner.Differing.{numbered_needs}
 use Rattle.summary_comparing.specs.inner.SameEffects.{same_effect}
@@ -21,7 +21,7 @@ before_first test [] = 0
 before_first test (x ∷ xs) = if test x then 0 else suc (before_first test xs)
 
 -- how many of the numbers stand before the first whose step needs the effect
-abbrev pub steps_before : List Summary → ℕ → List Step → List ℕ → Effect → ℕ
+abbrev pub steps_before : List Summary → ℕ → List BodyStep → List ℕ → Effect → ℕ
 steps_before summaries params steps numbers effect =
     before_first (λ number. has_effect (numbered_needs summaries params steps number) effect) numbers
 

@@ -5,8 +5,8 @@ use Rattle.effect_sets.specs.declared.effects.Summary.{Summary}
 use Rattle.twe_ast.specs.declared.item.Clause.{Clause}
 use Rattle.twe_ast.specs.declared.name.Name as written
 use Rattle.twe_ast.specs.declared.path.Path.{Path}
-use Rattle.pasting_laws.specs.Clauses.{elem_of, texts_of}
-use Rattle.pasting_laws.specs.places.Places.{no_place}
+use Rattle.summary_texts.specs.paste_laws.Clauses.{elem_of, texts_of}
+use Rattle.summary_texts.specs.paste_laws.places.Places.{no_place}
 use Rattle.summary_texts.specs.Order.{summary_paths_of}
 
 -- a path with these elements

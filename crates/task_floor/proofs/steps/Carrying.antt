@@ -3,14 +3,14 @@ use Rattle.std.proofs.Common.{◌≡◌, ◌<◌, ℕ, suc, ℤ, pos, List, [], 
 use Rattle.std.proofs.lemmas.List.{length-replicate}
 use Rattle.twe_program.specs.Program.{Program, cell_count}
 use Rattle.twe_program.specs.WellFormed.{IsWellFormed}
-use Rattle.seg_exec.specs.declared.frame.Frame.{Frame}
-use Rattle.seg_exec.specs.Access.{Access, Reads, Writes, Prints, MayAll}
-use Rattle.seg_exec.specs.Plain.{list_ways}
-use Rattle.seg_exec.specs.Segment.{MayCarryOut, segment}
-use Rattle.seg_exec.proofs.Accesses.{may_carry_out}
-use Rattle.floor_rule.specs.declared.view.HeldTurn.{HeldTurn}
-use Rattle.admission_laws.specs.admission_core.States.{IsAmong}
-use Rattle.floor_rule.proofs.Puts.{none_some}
+use Rattle.seg_meaning.specs.declared.frame.Frame.{Frame}
+use Rattle.seg_meaning.specs.Access.{Access, Reads, Writes, Prints, MayAll}
+use Rattle.seg_meaning.specs.Plain.{list_ways}
+use Rattle.seg_meaning.specs.Segment.{MayCarryOut, segment}
+use Rattle.seg_meaning.proofs.Accesses.{may_carry_out}
+use Rattle.floor_laws.specs.declared.rule.view.HeldTurn.{HeldTurn}
+use Rattle.floor_laws.specs.admission.admission_core.States.{IsAmong}
+use Rattle.floor_laws.proofs.rule.Puts.{none_some}
 use Rattle.task_floor.specs.steps.Segments.{MayRunSegment, StandValue}
 use Rattle.task_floor.specs.steps.Stands.{MayAccess}
 use Rattle.task_floor.proofs.steps.Touching.{stand_ways}

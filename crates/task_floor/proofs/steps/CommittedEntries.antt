@@ -7,20 +7,20 @@ use Rattle.twe_base.specs.Limits.{Bounds}
 use Rattle.seg_journal.specs.declared.journal.End.{End}
 use Rattle.seg_journal.specs.declared.journal.End.TheVariants as ends
 use Rattle.seg_journal.specs.declared.moves.Kind.TheVariants.{Run}
-use Rattle.seg_exec.specs.declared.frame.Frame.{Frame}
-use Rattle.seg_exec.specs.declared.stop.Stop.{Stop}
-use Rattle.seg_exec.specs.declared.stop.Stop.TheVariants as stops
-use Rattle.seg_exec.specs.Segment.{HasRoomToSpawn}
-use Rattle.twe_machine.specs.declared.state.TaskRow.{TaskRow}
-use Rattle.twe_machine.specs.declared.state.TaskStatus.TheVariants as status
-use Rattle.twe_machine.specs.Moves.{faulted_row, frame_without_prints, going_row, making_frame, new_row, parent_of, stopped_frame}
-use Rattle.floor_rule.specs.declared.view.HeldTurn.{HeldTurn}
-use Rattle.floor_rule.specs.declared.view.TaskSlot.{TaskSlot}
-use Rattle.floor_rule.specs.Rows.{slot_of}
-use Rattle.floor_rule.specs.Steps.{end_after, row_after}
-use Rattle.floor_rule.proofs.Puts.{none_some, some_one}
-use Rattle.floor_table.specs.Layout.{asked_of_clock, entries_of_clock}
-use Rattle.floor_table.specs.Tells.{Seat, drawn_seat, drawn_view, drawn_with, entry_at}
+use Rattle.seg_meaning.specs.declared.frame.Frame.{Frame}
+use Rattle.seg_meaning.specs.declared.stop.Stop.{Stop}
+use Rattle.seg_meaning.specs.declared.stop.Stop.TheVariants as stops
+use Rattle.seg_meaning.specs.Segment.{HasRoomToSpawn}
+use Rattle.machine_state.specs.declared.state.TaskRow.{TaskRow}
+use Rattle.machine_state.specs.declared.state.TaskStatus.TheVariants as status
+use Rattle.machine_state.specs.Moves.{faulted_row, frame_without_prints, going_row, making_frame, new_row, parent_of, stopped_frame}
+use Rattle.floor_laws.specs.declared.rule.view.HeldTurn.{HeldTurn}
+use Rattle.floor_laws.specs.declared.rule.view.TaskSlot.{TaskSlot}
+use Rattle.floor_laws.specs.rule.Rows.{slot_of}
+use Rattle.floor_laws.specs.rule.Steps.{end_after, row_after}
+use Rattle.floor_laws.proofs.rule.Puts.{none_some, some_one}
+use Rattle.floor_laws.specs.table.Layout.{asked_of_clock, entries_of_clock}
+use Rattle.floor_laws.specs.table.Tells.{Seat, drawn_seat, drawn_view, drawn_with, entry_at}
 use Rattle.task_floor.specs.steps.Committing.{child_row, status_after}
 use Rattle.task_floor.specs.steps.inner.Bringing.{IsNew, MayBring, frame_after, seat_with}
 

@@ -2,30 +2,30 @@
 use Rattle.std.proofs.Common.{◌≡◌, ◌≢◌, ℕ, ℤ, pos, Bool, List, ◌∷◌, Option, None, Some, if◌then◌else◌, refl, sym, ap, subst, ◌∙◌, inl, inr, ⊎_elim, eq-eqb, ne_eqb}
 use Rattle.std.proofs.lemmas.Bool.{cases_eq}
 use Rattle.twe_base.specs.Limits.{Bounds}
-use Rattle.seg_exec.specs.declared.frame.Frame.{Frame}
-use Rattle.seg_exec.specs.declared.frame.Next.{Next}
-use Rattle.seg_exec.specs.declared.frame.Next.TheVariants.{Go, Get, Join, Closing, Ended}
-use Rattle.seg_exec.specs.Giving.{given_by}
-use Rattle.twe_machine.specs.declared.state.TaskRow.{TaskRow}
-use Rattle.twe_machine.specs.declared.state.TaskStatus.{TaskStatus}
-use Rattle.twe_machine.specs.declared.state.TaskStatus.TheVariants as status
-use Rattle.twe_machine.specs.Rows.{row_awaited}
-use Rattle.floor_rule.specs.declared.view.DoneFact.{DoneFact}
-use Rattle.floor_rule.specs.declared.view.HeldTurn.{HeldTurn}
-use Rattle.floor_rule.specs.declared.view.Phase.{Phase}
-use Rattle.floor_rule.specs.declared.view.Phase.TheVariants as phases
-use Rattle.floor_rule.specs.declared.view.TaskSlot.{TaskSlot}
-use Rattle.floor_rule.specs.Fitting.{KnowsAwaited}
-use Rattle.floor_rule.specs.Rows.{phase_at, phase_of}
-use Rattle.floor_rule.specs.Steps.{with_row}
-use Rattle.admission_laws.specs.admission_core.States.{IsAmong}
-use Rattle.floor_rule.proofs.Puts.{none_some}
-use Rattle.floor_table.specs.declared.view.View.{View}
-use Rattle.floor_table.specs.FloorOf.{turn_in}
-use Rattle.floor_table.specs.Layout.{phase_of_word, word_of_phase}
-use Rattle.floor_table.specs.Tells.{FoundDone, FoundPhase, GaveTurn, MayStore, Seat, StoredPhase, with_turn}
-use Rattle.floor_table.proofs.Added.{grown_by, grown_same, grown_then}
-use Rattle.floor_table.proofs.Steps.{phase_again}
+use Rattle.seg_meaning.specs.declared.frame.Frame.{Frame}
+use Rattle.seg_meaning.specs.declared.frame.Next.{Next}
+use Rattle.seg_meaning.specs.declared.frame.Next.TheVariants.{Go, Get, Join, Closing, Ended}
+use Rattle.seg_meaning.specs.Giving.{given_by}
+use Rattle.machine_state.specs.declared.state.TaskRow.{TaskRow}
+use Rattle.machine_state.specs.declared.state.TaskStatus.{TaskStatus}
+use Rattle.machine_state.specs.declared.state.TaskStatus.TheVariants as status
+use Rattle.machine_state.specs.Rows.{row_awaited}
+use Rattle.floor_laws.specs.declared.rule.view.DoneFact.{DoneFact}
+use Rattle.floor_laws.specs.declared.rule.view.HeldTurn.{HeldTurn}
+use Rattle.floor_laws.specs.declared.rule.view.Phase.{Phase}
+use Rattle.floor_laws.specs.declared.rule.view.Phase.TheVariants as phases
+use Rattle.floor_laws.specs.declared.rule.view.TaskSlot.{TaskSlot}
+use Rattle.floor_laws.specs.rule.Fitting.{KnowsAwaited}
+use Rattle.floor_laws.specs.rule.Rows.{phase_at, phase_of}
+use Rattle.floor_laws.specs.rule.Steps.{with_row}
+use Rattle.floor_laws.specs.admission.admission_core.States.{IsAmong}
+use Rattle.floor_laws.proofs.rule.Puts.{none_some}
+use Rattle.floor_laws.specs.declared.table.view.View.{View}
+use Rattle.floor_laws.specs.table.FloorOf.{turn_in}
+use Rattle.floor_laws.specs.table.Layout.{phase_of_word, word_of_phase}
+use Rattle.floor_laws.specs.table.Tells.{FoundDone, FoundPhase, GaveTurn, MayStore, Seat, StoredPhase, with_turn}
+use Rattle.floor_laws.proofs.table.Added.{grown_by, grown_same, grown_then}
+use Rattle.floor_laws.proofs.table.Steps.{phase_again}
 use Rattle.task_floor.specs.steps.Resuming.{HasInHand, KnowsMore, KnowsValue, MovesOn}
 use Rattle.task_floor.specs.steps.Segments.{MayRunSegment}
 use Rattle.task_floor.specs.steps.Stands.{HasTaken, MayGiveBack}

@@ -5,15 +5,15 @@ use mathlib.Core.Option as core
 use lib.ListN.{get_elem?}
 use Rattle.twe_base.specs.Limits.{Bounds}
 use Rattle.twe_program.specs.Program.{Program, cell_count}
-use Rattle.twe_machine.specs.declared.state.State.{State}
-use Rattle.twe_machine.specs.declared.state.TaskRow.{TaskRow}
+use Rattle.machine_state.specs.declared.state.State.{State}
+use Rattle.machine_state.specs.declared.state.TaskRow.{TaskRow}
 use Rattle.seg_journal.specs.declared.numbered.NumberedEntry.{NumberedEntry}
-use Rattle.floor_rule.specs.declared.view.TaskSlot.{TaskSlot}
-use Rattle.floor_rule.specs.Rows.{phase_of}
-use Rattle.floor_rule.specs.Steps.{phase_at_start}
-use Rattle.floor_rule.specs.Touches.{cell_at}
-use Rattle.floor_table.specs.Holds.{IsLaidOut, IsWordOf, slot_of_row, turn_word_of}
-use Rattle.floor_table.specs.Layout.{cell_place, free_word, new_word, phase_place, turn_place, value_of_word, word_of_phase}
+use Rattle.floor_laws.specs.declared.rule.view.TaskSlot.{TaskSlot}
+use Rattle.floor_laws.specs.rule.Rows.{phase_of}
+use Rattle.floor_laws.specs.rule.Steps.{phase_at_start}
+use Rattle.floor_laws.specs.rule.Touches.{cell_at}
+use Rattle.floor_laws.specs.table.Holds.{IsLaidOut, IsWordOf, slot_of_row, turn_word_of}
+use Rattle.floor_laws.specs.table.Layout.{cell_place, free_word, new_word, phase_place, turn_place, value_of_word, word_of_phase}
 use Rattle.task_floor.specs.steps.inner.Laying.{AreWordsOf, head_words, held_slot, in_lines, made_words, unmade_words, unused_words}
 
 -- beyond the first of two lists

@@ -5,20 +5,20 @@ use Rattle.std.proofs.lemmas.List.{append-nil}
 use Rattle.seg_journal.specs.declared.journal.Entry.{Entry}
 use Rattle.twe_base.specs.Limits.{Bounds}
 use Rattle.twe_program.specs.Program.{Program}
-use Rattle.twe_machine.specs.declared.state.State.{State}
-use Rattle.twe_machine.specs.Runs.{IsRun}
+use Rattle.machine_state.specs.declared.state.State.{State}
+use Rattle.machine_state.specs.Runs.{IsRun}
 use Rattle.seg_journal.specs.declared.numbered.NumberedEntry.{NumberedEntry}
 use Rattle.seg_journal.specs.Merging.{journal_of, prints_of}
-use Rattle.floor_rule.specs.Rule.{AreInOrder}
-use Rattle.floor_rule.proofs.Puts.{none_some, some_one}
-use Rattle.task_floor.specs.steps.Waking.{log_of, numbered_from, with_prints}
+use Rattle.floor_laws.specs.rule.Rule.{AreInOrder}
+use Rattle.floor_laws.proofs.rule.Puts.{none_some, some_one}
+use Rattle.task_floor.specs.steps.Waking.{log_of, numbered_from, with_last_prints}
 
-pub prints_last : (prints : List ℤ) (xs : List NumberedEntry) (e : NumberedEntry) → with_prints prints (xs ++ e ∷ []) ≡ xs ++ record { number = e.number; entry = e.entry; prints = prints } ∷ []
+pub prints_last : (prints : List ℤ) (xs : List NumberedEntry) (e : NumberedEntry) → with_last_prints prints (xs ++ e ∷ []) ≡ xs ++ record { number = e.number; entry = e.entry; prints = prints } ∷ []
 prints_last prints [] e = refl
 prints_last prints (x ∷ []) e = refl
 prints_last prints (x ∷ y ∷ xs) e = ap (λ (l : List NumberedEntry). x ∷ l) (prints_last prints (y ∷ xs) e)
 
-same_journal : (prints : List ℤ) (log : List NumberedEntry) → journal_of (with_prints prints log) ≡ journal_of log
+same_journal : (prints : List ℤ) (log : List NumberedEntry) → journal_of (with_last_prints prints log) ≡ journal_of log
 same_journal prints [] = refl
 same_journal prints (e ∷ []) = refl
 same_journal prints (e ∷ f ∷ log) = ap (λ (l : List Entry). e.entry ∷ l) (same_journal prints (f ∷ log))
@@ -33,7 +33,7 @@ log_journal journal prints = same_journal prints (numbered_from 0 journal) ∙ n
 pub log_length : (journal : List Entry) (prints : List ℤ) → length (log_of journal prints) ≡ length journal
 log_length journal prints = by_prints (numbered_from 0 journal) ∙ by_number 0 journal
   where
-    by_prints : (log : List NumberedEntry) → length (with_prints prints log) ≡ length log
+    by_prints : (log : List NumberedEntry) → length (with_last_prints prints log) ≡ length log
     by_prints [] = refl
     by_prints (e ∷ []) = refl
     by_prints (e ∷ f ∷ log) = ap suc (by_prints (f ∷ log))
@@ -54,7 +54,7 @@ record WasNumbered (log : List NumberedEntry) (n : ℕ) (e : NumberedEntry) : Ty
   there : slice_get log n ≡ Some before
   number : e.number ≡ before.number
 
-was_numbered : (prints : List ℤ) (log : List NumberedEntry) (n : ℕ) (e : NumberedEntry) → slice_get (with_prints prints log) n ≡ Some e → WasNumbered log n e
+was_numbered : (prints : List ℤ) (log : List NumberedEntry) (n : ℕ) (e : NumberedEntry) → slice_get (with_last_prints prints log) n ≡ Some e → WasNumbered log n e
 was_numbered prints [] n e is = absurd (none_some is)
 was_numbered prints (x ∷ []) zero e is = record { before = x; there = refl; number = ap (λ (y : NumberedEntry). y.number) (sym (some_one is)) }
 was_numbered prints (x ∷ []) (suc n) e is = absurd (none_some is)
@@ -68,7 +68,7 @@ log_order journal prints n e is =
     let place = number_at 0 journal n was.before was.there in
     omega (arith, number, place)
 
-last_prints : (n : ℕ) (e : Entry) (journal : List Entry) (prints : List ℤ) → prints_of (with_prints prints (numbered_from n (e ∷ journal))) ≡ prints
+last_prints : (n : ℕ) (e : Entry) (journal : List Entry) (prints : List ℤ) → prints_of (with_last_prints prints (numbered_from n (e ∷ journal))) ≡ prints
 last_prints n e [] prints = append-nil prints
 last_prints n e (f ∷ journal) prints = last_prints (n + 1) f journal prints
 

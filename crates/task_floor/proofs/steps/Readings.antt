@@ -6,29 +6,29 @@ use mathlib.Core.Option.{some-injective, some-ne-none}
 use lib.ListN.{get_elem?}
 use Rattle.std.proofs.lemmas.List.{length-map}
 use Rattle.std.proofs.lemmas.Option.{slice_get-get_or}
-use Rattle.twe_machine.proofs.links.Ordered.{reached_ordered}
-use Rattle.twe_machine.proofs.lists.Members.{IsIn, any_in, in_contains}
-use Rattle.twe_machine.proofs.lists.Places.{map_index}
-use Rattle.twe_machine.proofs.standing.ReachedStands.{reached_stands}
-use Rattle.twe_machine.proofs.standing.Standing.{IsChild}
+use Rattle.machine_state.proofs.links.Ordered.{reached_ordered}
+use Rattle.machine_state.proofs.lists.Members.{IsIn, any_in, in_contains}
+use Rattle.machine_state.proofs.lists.Places.{map_index}
+use Rattle.machine_state.proofs.standing.ReachedStands.{reached_stands}
+use Rattle.machine_state.proofs.standing.Standing.{IsChild}
 use Rattle.wait_graph.specs.declared.tasks.Link.{Link}
 use Rattle.wait_graph.specs.Link.{IsOrdered, link_of, new_link, with_done, with_joined, with_wait}
 use Rattle.twe_base.specs.Limits.{Bounds, IsWithin}
 use Rattle.twe_program.specs.Program.{Program, cell_count}
 use Rattle.twe_program.specs.WellFormed.{IsWellFormed}
-use Rattle.twe_machine.specs.declared.state.FirstFault.{FirstFault}
-use Rattle.twe_machine.specs.declared.state.State.{State}
-use Rattle.twe_machine.specs.declared.state.TaskRow.{TaskRow}
-use Rattle.twe_machine.specs.Rows.{IsRow, link_of_row}
-use Rattle.twe_machine.specs.Runs.{IsReached}
-use Rattle.floor_rule.specs.declared.view.Phase.{Phase}
-use Rattle.floor_rule.specs.declared.view.TaskSlot.{TaskSlot}
-use Rattle.floor_rule.specs.Rows.{slot_of}
-use Rattle.floor_rule.specs.Shown.{has_child, is_joined, is_unjoined, row_by}
-use Rattle.floor_rule.proofs.Puts.{none_some, some_one}
-use Rattle.floor_rule.proofs.ShownRows.{row_shown}
-use Rattle.floor_table.specs.Layout.{asked_of_clock, cell_place, cell_words_from, number_at, phase_word_at, value_of_word, word_count}
-use Rattle.floor_table.proofs.nodes.Elements.{take_there}
+use Rattle.machine_state.specs.declared.state.FirstFault.{FirstFault}
+use Rattle.machine_state.specs.declared.state.State.{State}
+use Rattle.machine_state.specs.declared.state.TaskRow.{TaskRow}
+use Rattle.machine_state.specs.Rows.{IsRow, link_of_row}
+use Rattle.machine_state.specs.Runs.{IsReached}
+use Rattle.floor_laws.specs.declared.rule.view.Phase.{Phase}
+use Rattle.floor_laws.specs.declared.rule.view.TaskSlot.{TaskSlot}
+use Rattle.floor_laws.specs.rule.Rows.{slot_of}
+use Rattle.floor_laws.specs.rule.Shown.{has_child, is_joined, is_unjoined, row_by}
+use Rattle.floor_laws.proofs.rule.Puts.{none_some, some_one}
+use Rattle.floor_laws.proofs.rule.ShownRows.{row_shown}
+use Rattle.floor_laws.specs.table.Layout.{asked_of_clock, cell_place, cell_words_from, number_at, phase_word_at, value_of_word, word_count}
+use Rattle.floor_laws.proofs.table.nodes.Elements.{take_there}
 use Rattle.task_floor.specs.inner.Emptying.{ShowsState}
 use Rattle.task_floor.specs.steps.inner.Reading.{fresh_link, held_in, joined_unless, links_to, rows_from}
 

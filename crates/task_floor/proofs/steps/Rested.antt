@@ -5,12 +5,12 @@ use Rattle.seg_journal.specs.declared.journal.Entry.{Entry}
 use Rattle.twe_base.specs.Limits.{Bounds, IsWithin}
 use Rattle.twe_program.specs.Program.{Program}
 use Rattle.twe_program.specs.WellFormed.{IsWellFormed}
-use Rattle.twe_machine.specs.Runs.{Legal, state_after}
+use Rattle.machine_state.specs.Runs.{Legal, state_after}
 use Rattle.seg_journal.specs.declared.numbered.NumberedEntry.{NumberedEntry}
 use Rattle.seg_journal.specs.Merging.{AreNumbered, IsMergeOf, all_of, journal_of, prints_of}
-use Rattle.floor_rule.specs.declared.view.TaskSlot.{TaskSlot}
-use Rattle.floor_table.proofs.Alone.{one_merge}
-use Rattle.floor_table.proofs.Rests.{merge_same, numbered_same}
+use Rattle.floor_laws.specs.declared.rule.view.TaskSlot.{TaskSlot}
+use Rattle.floor_laws.proofs.table.Alone.{one_merge}
+use Rattle.floor_laws.proofs.table.Rests.{merge_same, numbered_same}
 use Rattle.task_floor.specs.inner.Emptying.{EndedAfter, ShowsState}
 
 -- the journal is legal, and the words and tasks show the state that it leads to

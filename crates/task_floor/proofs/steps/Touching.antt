@@ -1,14 +1,14 @@
 -- What a stand that touches a cell may do afterwards, and what it knows.
 use Rattle.std.proofs.Common.{◌≡◌, ℕ, ℤ, Some, sym, ap, subst, ◌∙◌}
 use Rattle.twe_program.specs.Program.{Program}
-use Rattle.seg_exec.specs.Access.{Access, KnowsNow, MaySame, Prints, Reads, Writes, Ways, ways_of}
-use Rattle.floor_rule.specs.declared.view.OpenSegment.{OpenSegment}
-use Rattle.floor_rule.specs.declared.view.Touch.{Touch}
-use Rattle.floor_rule.specs.declared.view.Touch.TheVariants.{Read, Write}
-use Rattle.floor_rule.specs.LastTouches.{last_touched}
-use Rattle.floor_rule.specs.Touches.{touches_of}
-use Rattle.floor_rule.proofs.Puts.{some_one}
-use Rattle.floor_table.specs.Tells.{IsLatest, Seat, WroteCell, with_touch}
+use Rattle.seg_meaning.specs.Access.{Access, KnowsNow, MaySame, Prints, Reads, Writes, Ways, ways_of}
+use Rattle.floor_laws.specs.declared.rule.view.OpenSegment.{OpenSegment}
+use Rattle.floor_laws.specs.declared.rule.view.Touch.{Touch}
+use Rattle.floor_laws.specs.declared.rule.view.Touch.TheVariants.{Read, Write}
+use Rattle.floor_laws.specs.rule.LastTouches.{last_touched}
+use Rattle.floor_laws.specs.rule.Touches.{touches_of}
+use Rattle.floor_laws.proofs.rule.Puts.{some_one}
+use Rattle.floor_laws.specs.table.Tells.{IsLatest, Seat, WroteCell, with_touch}
 use Rattle.task_floor.specs.steps.Segments.{HasTouched, MayReadCell, MayWriteCell, StandValue, latest_task, stand_knows}
 use Rattle.task_floor.specs.steps.Stands.{HasLoaded, MayAccess}
 

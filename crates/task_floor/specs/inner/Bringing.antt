@@ -2,13 +2,13 @@
 use Rattle.std.specs.Prelude.{◌≡◌, ◌≢◌, ◌<◌, ℕ, Option, None, Some, option_map}
 use Rattle.std.specs.Option.{ForSome}
 use Rattle.twe_base.specs.Limits.{Bounds}
-use Rattle.twe_machine.specs.declared.state.TaskRow.{TaskRow}
-use Rattle.floor_rule.specs.declared.view.TaskSlot.{TaskSlot}
-use Rattle.floor_rule.specs.Rows.{slot_of}
+use Rattle.machine_state.specs.declared.state.TaskRow.{TaskRow}
+use Rattle.floor_laws.specs.declared.rule.view.TaskSlot.{TaskSlot}
+use Rattle.floor_laws.specs.rule.Rows.{slot_of}
 use Rattle.task_floor.specs.steps.inner.Bringing.{IsNew}
-use Rattle.admission_laws.specs.admission_core.States.{IsAmong, Record}
-use Rattle.floor_table.specs.nodes.FloorSeats.{HasTaskSlots}
-use Rattle.floor_table.specs.nodes.Seats.{TreeSeat}
+use Rattle.floor_laws.specs.admission.admission_core.States.{IsAmong, Record}
+use Rattle.floor_laws.specs.table.nodes.FloorSeats.{HasTaskSlots}
+use Rattle.floor_laws.specs.table.nodes.Seats.{TreeSeat}
 use Rattle.task_floor.specs.Committing.{with_first}
 
 -- the seat after an entry, with the first turn of the task that it made, if it made one

@@ -2,16 +2,16 @@
 use Rattle.std.specs.Prelude.{◌≡◌, ℕ, List, Option, None, take}
 use Rattle.twe_base.specs.Limits.{Bounds}
 use Rattle.twe_program.specs.Program.{Program}
-use Rattle.twe_machine.specs.declared.state.State.{State}
+use Rattle.machine_state.specs.declared.state.State.{State}
 use Rattle.seg_journal.specs.declared.numbered.NumberedEntry.{NumberedEntry}
 use Rattle.seg_journal.specs.Merging.{all_of}
-use Rattle.floor_rule.specs.declared.view.TaskSlot.{TaskSlot}
-use Rattle.floor_table.specs.declared.view.View.{View}
-use Rattle.floor_table.specs.Holds.{ShowsEnd}
-use Rattle.floor_table.specs.Layout.{word_count}
-use Rattle.floor_table.specs.Shown.{EndedQuiet, ShowsRest}
-use Rattle.floor_table.specs.declared.nodes.slot.TreeSlot.{TreeSlot}
-use Rattle.floor_table.specs.declared.nodes.slot.TreeSlot.TheVariants as kinds
+use Rattle.floor_laws.specs.declared.rule.view.TaskSlot.{TaskSlot}
+use Rattle.floor_laws.specs.declared.table.view.View.{View}
+use Rattle.floor_laws.specs.table.Holds.{ShowsEnd}
+use Rattle.floor_laws.specs.table.Layout.{word_count}
+use Rattle.floor_laws.specs.table.Shown.{EndedQuiet, ShowsRest}
+use Rattle.floor_laws.specs.declared.table.nodes.slot.TreeSlot.{TreeSlot}
+use Rattle.floor_laws.specs.declared.table.nodes.slot.TreeSlot.TheVariants as kinds
 use Rattle.task_floor.specs.steps.inner.Reading.{held_in}
 
 -- what lies in the slot of a task; nothing if the slot is none of a task

@@ -1,10 +1,10 @@
 -- A segment over the floor, which has the cell that it touched last in hand.
 use Rattle.std.specs.Prelude.{◌≡◌, ◌<◌, ℕ, ℤ, List, ◌∷◌, length, Option, None, Some, if◌then◌else◌, nat_eq, slice_set}
 use Rattle.twe_program.specs.Program.{Program, cell_count}
-use Rattle.seg_exec.specs.Access.{Access, Agrees, MaySame, Ways, after, ways_of}
-use Rattle.floor_rule.specs.declared.view.OpenSegment.{OpenSegment}
-use Rattle.floor_rule.specs.Touches.{accesses_of, touches_of}
-use Rattle.floor_table.specs.nodes.FloorSeats.{floor_seat, tasks_out}
+use Rattle.seg_meaning.specs.Access.{Access, Agrees, MaySame, Ways, after, ways_of}
+use Rattle.floor_laws.specs.declared.rule.view.OpenSegment.{OpenSegment}
+use Rattle.floor_laws.specs.rule.Touches.{accesses_of, touches_of}
+use Rattle.floor_laws.specs.table.nodes.FloorSeats.{floor_seat, tasks_out}
 use Rattle.task_floor.specs.declared.in_hand.CellInHand.{CellInHand}
 use Rattle.task_floor.specs.declared.in_hand.CellInHand.TheVariants.{Nothing, Known, Written}
 use Rattle.task_floor.specs.Segments.{MayReadCell, MayWriteCell, stand_knows}

@@ -5,12 +5,12 @@ use mathlib.Core.Option as core
 use lib.ListN.{get_elem?}
 use Rattle.region_paths.specs.declared.elements.Elem.{Elem}
 use Rattle.effect_sets.specs.declared.effects.Effect.{Effect}
-use Rattle.twe_machine.specs.declared.state.TaskRow.{TaskRow}
-use Rattle.twe_machine.specs.declared.state.TaskStatus.{TaskStatus}
-use Rattle.twe_machine.specs.declared.state.TaskStatus.TheVariants.{Made, Enabled, Done, Faulted}
-use Rattle.admission_laws.specs.admission_core.States.{IsAmong, IsPlaceOf, Record}
-use Rattle.floor_rule.specs.nodes.Fitting.{AreRecordsAt, IsDistinct}
-use Rattle.floor_table.specs.nodes.Without.{same_record}
+use Rattle.machine_state.specs.declared.state.TaskRow.{TaskRow}
+use Rattle.machine_state.specs.declared.state.TaskStatus.{TaskStatus}
+use Rattle.machine_state.specs.declared.state.TaskStatus.TheVariants.{Made, Enabled, Done, Faulted}
+use Rattle.floor_laws.specs.admission.admission_core.States.{IsAmong, IsPlaceOf, Record}
+use Rattle.floor_laws.specs.rule.nodes.Fitting.{AreRecordsAt, IsDistinct}
+use Rattle.floor_laws.specs.table.nodes.Without.{same_record}
 
 -- the effects of a task that block others: all of them if it is enabled, else none
 abbrev pub live_by : TaskStatus → List Effect → List Effect

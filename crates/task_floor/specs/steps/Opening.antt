@@ -2,13 +2,13 @@
 use Rattle.std.specs.Prelude.{◌≡◌, ℕ, List, Option}
 use Rattle.twe_base.specs.Limits.{Bounds}
 use Rattle.twe_program.specs.Program.{Program}
-use Rattle.twe_machine.specs.declared.state.State.{State}
-use Rattle.twe_machine.specs.Runs.{IsRun}
+use Rattle.machine_state.specs.declared.state.State.{State}
+use Rattle.machine_state.specs.Runs.{IsRun}
 use Rattle.seg_journal.specs.declared.numbered.NumberedEntry.{NumberedEntry}
 use Rattle.seg_journal.specs.Merging.{journal_of, prints_of}
-use Rattle.floor_rule.specs.declared.view.TaskSlot.{TaskSlot}
-use Rattle.floor_rule.specs.Rule.{AreInOrder}
-use Rattle.floor_table.specs.Holds.{IsLaidOut}
+use Rattle.floor_laws.specs.declared.rule.view.TaskSlot.{TaskSlot}
+use Rattle.floor_laws.specs.rule.Rule.{AreInOrder}
+use Rattle.floor_laws.specs.table.Holds.{IsLaidOut}
 
 -- the words and slots show the state of a run, whose entries are those of the log
 pub record ShowsRun (p : Program) (lim : Bounds) (log : List NumberedEntry) (st : State) (words : List ℕ)

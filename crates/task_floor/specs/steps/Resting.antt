@@ -2,7 +2,7 @@
 use Rattle.std.specs.Prelude.{◌≡◌, List}
 use Rattle.twe_base.specs.Limits.{Bounds}
 use Rattle.twe_program.specs.Program.{Program}
-use Rattle.twe_machine.specs.Runs.{IsRun}
+use Rattle.machine_state.specs.Runs.{IsRun}
 use Rattle.seg_journal.specs.declared.numbered.NumberedEntry.{NumberedEntry}
 use Rattle.seg_journal.specs.Merging.{IsMergeOf, journal_of, prints_of}
 use Rattle.task_floor.specs.declared.steps.rest.Rest.{Rest}

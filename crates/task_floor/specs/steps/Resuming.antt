@@ -1,14 +1,14 @@
 -- How a task that a stand has in hand goes on.
 use Rattle.std.specs.Prelude.{◌≡◌, ◌≢◌, ◌⊎◌, ℕ, ℤ, false, None, Some}
-use Rattle.seg_exec.specs.declared.frame.Frame.{Frame}
-use Rattle.floor_rule.specs.declared.view.DoneFact.{DoneFact}
-use Rattle.floor_rule.specs.declared.view.HeldTurn.{HeldTurn}
-use Rattle.floor_rule.specs.declared.view.Phase.TheVariants as phases
-use Rattle.floor_rule.specs.Rows.{phase_of}
-use Rattle.admission_laws.specs.admission_core.States.{IsAmong}
-use Rattle.floor_table.specs.Added.{HasGrown}
-use Rattle.floor_table.specs.FloorOf.{turn_in}
-use Rattle.floor_table.specs.Tells.{IsLatest, Seat}
+use Rattle.seg_meaning.specs.declared.frame.Frame.{Frame}
+use Rattle.floor_laws.specs.declared.rule.view.DoneFact.{DoneFact}
+use Rattle.floor_laws.specs.declared.rule.view.HeldTurn.{HeldTurn}
+use Rattle.floor_laws.specs.declared.rule.view.Phase.TheVariants as phases
+use Rattle.floor_laws.specs.rule.Rows.{phase_of}
+use Rattle.floor_laws.specs.admission.admission_core.States.{IsAmong}
+use Rattle.floor_laws.specs.table.Added.{HasGrown}
+use Rattle.floor_laws.specs.table.FloorOf.{turn_in}
+use Rattle.floor_laws.specs.table.Tells.{IsLatest, Seat}
 use Rattle.task_floor.specs.declared.steps.readiness.Readiness.{Readiness}
 use Rattle.task_floor.specs.declared.steps.readiness.Readiness.TheVariants.{Runs, Waits, Made, Ended}
 use Rattle.task_floor.specs.steps.Segments.{MayRunSegment}

@@ -2,19 +2,19 @@
 use Rattle.std.specs.Prelude.{◌≡◌, ◌<◌, ℕ, zero, ℤ, List, [], ◌∷◌, Option, None, Some}
 use Rattle.atomic_table.specs.declared.shared.Seat.{Seat as TableSeat}
 use Rattle.twe_program.specs.Program.{Program, cell_count}
-use Rattle.seg_exec.specs.declared.frame.Frame.{Frame}
-use Rattle.seg_exec.specs.declared.stop.Stop.{Stop}
-use Rattle.seg_exec.specs.Access.{Reads, Writes}
-use Rattle.floor_rule.specs.declared.view.HeldTurn.{HeldTurn}
-use Rattle.floor_rule.specs.declared.view.Phase.TheVariants.{Running}
-use Rattle.floor_rule.specs.declared.view.TaskSlot.{TaskSlot}
-use Rattle.floor_rule.specs.declared.view.Touch.{Touch}
-use Rattle.floor_rule.specs.Fitting.{MayRunFrom}
-use Rattle.floor_rule.specs.LastTouches.{last_touched}
-use Rattle.floor_rule.specs.Touches.{touches_of}
-use Rattle.floor_table.specs.declared.view.View.{View}
-use Rattle.floor_table.specs.FloorOf.{turn_in}
-use Rattle.floor_table.specs.Tells.{IsLatest, MayDraw, Seat, with_touch}
+use Rattle.seg_meaning.specs.declared.frame.Frame.{Frame}
+use Rattle.seg_meaning.specs.declared.stop.Stop.{Stop}
+use Rattle.seg_meaning.specs.Access.{Reads, Writes}
+use Rattle.floor_laws.specs.declared.rule.view.HeldTurn.{HeldTurn}
+use Rattle.floor_laws.specs.declared.rule.view.Phase.TheVariants.{Running}
+use Rattle.floor_laws.specs.declared.rule.view.TaskSlot.{TaskSlot}
+use Rattle.floor_laws.specs.declared.rule.view.Touch.{Touch}
+use Rattle.floor_laws.specs.rule.Fitting.{MayRunFrom}
+use Rattle.floor_laws.specs.rule.LastTouches.{last_touched}
+use Rattle.floor_laws.specs.rule.Touches.{touches_of}
+use Rattle.floor_laws.specs.declared.table.view.View.{View}
+use Rattle.floor_laws.specs.table.FloorOf.{turn_in}
+use Rattle.floor_laws.specs.table.Tells.{IsLatest, MayDraw, Seat, with_touch}
 use Rattle.task_floor.specs.steps.Stands.{MayAccess}
 
 -- a stand, as clauses see it

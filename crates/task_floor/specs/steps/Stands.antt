@@ -2,15 +2,15 @@
 -- what lay in it was handed out.
 use Rattle.std.specs.Prelude.{◌≡◌, ◌≢◌, ℕ, zero, suc, ℤ, false, List, ◌∷◌, Option, None, Some}
 use Rattle.twe_program.specs.Program.{Program}
-use Rattle.twe_machine.specs.declared.state.TaskStatus.TheVariants as status
-use Rattle.seg_exec.specs.Access.{Access}
-use Rattle.floor_rule.specs.declared.view.HeldTurn.{HeldTurn}
-use Rattle.floor_rule.specs.declared.view.OpenSegment.{OpenSegment}
-use Rattle.floor_rule.specs.declared.view.TaskSlot.{TaskSlot}
-use Rattle.floor_rule.specs.declared.view.Touch.TheVariants.{Read}
-use Rattle.floor_rule.specs.Rows.{phase_of, slot_of}
-use Rattle.floor_table.specs.FloorOf.{turn_in}
-use Rattle.floor_table.specs.Tells.{IsLatest, MayTouchCell, Seat, with_touch, with_turn}
+use Rattle.machine_state.specs.declared.state.TaskStatus.TheVariants as status
+use Rattle.seg_meaning.specs.Access.{Access}
+use Rattle.floor_laws.specs.declared.rule.view.HeldTurn.{HeldTurn}
+use Rattle.floor_laws.specs.declared.rule.view.OpenSegment.{OpenSegment}
+use Rattle.floor_laws.specs.declared.rule.view.TaskSlot.{TaskSlot}
+use Rattle.floor_laws.specs.declared.rule.view.Touch.TheVariants.{Read}
+use Rattle.floor_laws.specs.rule.Rows.{phase_of, slot_of}
+use Rattle.floor_laws.specs.table.FloorOf.{turn_in}
+use Rattle.floor_laws.specs.table.Tells.{IsLatest, MayTouchCell, Seat, with_touch, with_turn}
 
 -- the number of the worker that a turn word names, if it names one
 abbrev pub holder_in : ℕ → Option ℕ

@@ -3,14 +3,14 @@ use Rattle.std.specs.Prelude.{◌≡◌, ◌≢◌, ◌++◌, ℕ, [], ◌∷◌
 use Rattle.seg_journal.specs.declared.journal.End.{End}
 use Rattle.seg_journal.specs.declared.moves.Kind.TheVariants.{Run}
 use Rattle.seg_journal.specs.declared.numbered.NumberedEntry.{NumberedEntry}
-use Rattle.floor_rule.specs.declared.view.HeldTurn.{HeldTurn}
-use Rattle.floor_rule.specs.declared.view.Phase.{Phase}
-use Rattle.floor_rule.specs.Rows.{phase_of}
-use Rattle.floor_table.specs.declared.view.SeatKind.TheVariants.{Spent}
-use Rattle.floor_table.specs.declared.view.View.{View}
-use Rattle.floor_table.specs.Added.{IsAdded}
-use Rattle.floor_table.specs.Holds.{HasGivenAll}
-use Rattle.floor_table.specs.Tells.{Seat}
+use Rattle.floor_laws.specs.declared.rule.view.HeldTurn.{HeldTurn}
+use Rattle.floor_laws.specs.declared.rule.view.Phase.{Phase}
+use Rattle.floor_laws.specs.rule.Rows.{phase_of}
+use Rattle.floor_laws.specs.declared.table.view.SeatKind.TheVariants.{Spent}
+use Rattle.floor_laws.specs.declared.table.view.View.{View}
+use Rattle.floor_laws.specs.table.Added.{IsAdded}
+use Rattle.floor_laws.specs.table.Holds.{HasGivenAll}
+use Rattle.floor_laws.specs.table.Tells.{Seat}
 use Rattle.task_floor.specs.steps.Committing.{Log}
 use Rattle.task_floor.specs.steps.Segments.{StandValue}
 

@@ -1,11 +1,11 @@
 //! Laws of the entries that a floor's workers draw.
 ghost use Rattle.std.specs.Prelude.{◌≡◌, ℕ};
 ghost use Rattle.twe_base.specs.Limits.{Bounds};
-ghost use Rattle.seg_exec.specs.declared.frame.Frame.{Frame};
-ghost use Rattle.seg_exec.specs.declared.stop.Stop.{Stop};
-ghost use Rattle.twe_machine.specs.declared.state.TaskRow.{TaskRow};
-ghost use Rattle.twe_machine.specs.declared.state.TaskStatus.TheVariants.{Enabled};
-ghost use Rattle.floor_rule.specs.Steps.{end_after, row_after};
+ghost use Rattle.seg_meaning.specs.declared.frame.Frame.{Frame};
+ghost use Rattle.seg_meaning.specs.declared.stop.Stop.{Stop};
+ghost use Rattle.machine_state.specs.declared.state.TaskRow.{TaskRow};
+ghost use Rattle.machine_state.specs.declared.state.TaskStatus.TheVariants.{Enabled};
+ghost use Rattle.floor_laws.specs.rule.Steps.{end_after, row_after};
 ghost use Rattle.task_floor.specs.steps.Committing.{status_after};
 
 /// How an entry ends says whether its task goes on or has ended, and how. So whoever has drawn it knows whether to go on with

@@ -1,7 +1,7 @@
 //! A run between rounds.
 
+use machine_state::State;
 use seg_journal::Journal;
-use twe_machine::State;
 
 /// A run at a quiet point, when no worker has a stand.
 #[derive(Debug, Drop)]

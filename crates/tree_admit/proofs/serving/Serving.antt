@@ -8,45 +8,45 @@ use Rattle.twe_program.specs.Program.{Program}
 use Rattle.seg_journal.specs.declared.journal.End.{End}
 use Rattle.seg_journal.specs.declared.journal.End.TheVariants as ends
 use Rattle.seg_journal.specs.declared.moves.Kind.TheVariants.{Run}
-use Rattle.seg_exec.specs.declared.frame.Frame.{Frame}
-use Rattle.seg_exec.specs.declared.stop.Stop.{Stop}
-use Rattle.seg_exec.specs.Segment.{HasRoomToSpawn}
+use Rattle.seg_meaning.specs.declared.frame.Frame.{Frame}
+use Rattle.seg_meaning.specs.declared.stop.Stop.{Stop}
+use Rattle.seg_meaning.specs.Segment.{HasRoomToSpawn}
 use Rattle.seg_journal.specs.declared.numbered.NumberedEntry.{NumberedEntry}
-use Rattle.twe_machine.specs.declared.state.TaskRow.{TaskRow}
-use Rattle.twe_machine.specs.declared.state.TaskStatus.{TaskStatus}
-use Rattle.twe_machine.specs.declared.state.TaskStatus.TheVariants as status
-use Rattle.twe_machine.specs.Moves.{admitted_row}
-use Rattle.twe_machine.specs.Rows.{row_awaited}
-use Rattle.floor_rule.specs.declared.view.HeldTurn.{HeldTurn}
-use Rattle.floor_rule.specs.declared.view.Phase.{Phase}
-use Rattle.floor_rule.specs.declared.view.Phase.TheVariants as phases
-use Rattle.floor_rule.specs.declared.view.TaskSlot.{TaskSlot}
-use Rattle.floor_rule.specs.Rows.{phase_at, phase_of}
-use Rattle.floor_rule.specs.Steps.{end_after, first_turn, row_after}
-use Rattle.floor_rule.proofs.Puts.{none_some, put_here, some_one}
-use Rattle.floor_table.specs.declared.view.TurnChange.{TurnChange}
-use Rattle.floor_table.specs.declared.view.View.{View}
-use Rattle.floor_table.specs.Added.{HasGrown, IsAdded}
-use Rattle.floor_table.specs.Layout.{asked_of_clock, word_of_phase}
-use Rattle.floor_table.proofs.Added.{added_at, added_then, grown_by, grown_is, grown_then}
-use Rattle.floor_table.specs.Tells.{Seat, drawn_view, entry_at}
-use Rattle.floor_table.specs.FloorOf.{turn_in}
+use Rattle.machine_state.specs.declared.state.TaskRow.{TaskRow}
+use Rattle.machine_state.specs.declared.state.TaskStatus.{TaskStatus}
+use Rattle.machine_state.specs.declared.state.TaskStatus.TheVariants as status
+use Rattle.machine_state.specs.Moves.{admitted_row}
+use Rattle.machine_state.specs.Rows.{row_awaited}
+use Rattle.floor_laws.specs.declared.rule.view.HeldTurn.{HeldTurn}
+use Rattle.floor_laws.specs.declared.rule.view.Phase.{Phase}
+use Rattle.floor_laws.specs.declared.rule.view.Phase.TheVariants as phases
+use Rattle.floor_laws.specs.declared.rule.view.TaskSlot.{TaskSlot}
+use Rattle.floor_laws.specs.rule.Rows.{phase_at, phase_of}
+use Rattle.floor_laws.specs.rule.Steps.{end_after, first_turn, row_after}
+use Rattle.floor_laws.proofs.rule.Puts.{none_some, put_here, some_one}
+use Rattle.floor_laws.specs.declared.table.view.TurnChange.{TurnChange}
+use Rattle.floor_laws.specs.declared.table.view.View.{View}
+use Rattle.floor_laws.specs.table.Added.{HasGrown, IsAdded}
+use Rattle.floor_laws.specs.table.Layout.{asked_of_clock, word_of_phase}
+use Rattle.floor_laws.proofs.table.Added.{added_at, added_then, grown_by, grown_is, grown_then}
+use Rattle.floor_laws.specs.table.Tells.{Seat, drawn_view, entry_at}
+use Rattle.floor_laws.specs.table.FloorOf.{turn_in}
 use Rattle.task_floor.specs.steps.Committing.{Log, child_row, status_after}
 use Rattle.task_floor.specs.steps.Resuming.{HasInHand}
 use Rattle.task_floor.specs.steps.Segments.{HasRunSegment}
 use Rattle.task_floor.specs.steps.Working.{HasFound, HasRunOne, SameSeat}
-use Rattle.admission_laws.specs.admission_core.States.{IsAmong}
-use Rattle.floor_rule.specs.nodes.FactSteps.{HasPlacedAll}
-use Rattle.floor_rule.specs.nodes.Trees.{WaitFact}
-use Rattle.floor_rule.specs.nodes.TurnSteps.{IsClearOf}
-use Rattle.floor_table.specs.declared.nodes.slot.TreeSlot.{TreeSlot}
-use Rattle.floor_table.specs.declared.nodes.slot.TreeSlot.TheVariants as kinds
-use Rattle.floor_table.specs.declared.nodes.view.TreeView.{TreeView}
-use Rattle.floor_table.specs.nodes.Seats.{TreeSeat, tree_seen, turns_seen}
-use Rattle.floor_table.specs.nodes.TurnSeats.{GaveTreeTurn}
-use Rattle.floor_table.specs.nodes.EntrySeats.{MayAdmitLatest, admission_at}
-use Rattle.floor_table.specs.nodes.FloorSeats.{floor_seat, tasks_out}
-use Rattle.floor_table.specs.nodes.Follows.{FollowedPhase}
+use Rattle.floor_laws.specs.admission.admission_core.States.{IsAmong}
+use Rattle.floor_laws.specs.rule.nodes.FactSteps.{HasPlacedAll}
+use Rattle.floor_laws.specs.rule.nodes.Trees.{WaitFact}
+use Rattle.floor_laws.specs.rule.nodes.TurnSteps.{IsClearOf}
+use Rattle.floor_laws.specs.declared.table.nodes.slot.TreeSlot.{TreeSlot}
+use Rattle.floor_laws.specs.declared.table.nodes.slot.TreeSlot.TheVariants as kinds
+use Rattle.floor_laws.specs.declared.table.nodes.view.TreeView.{TreeView}
+use Rattle.floor_laws.specs.table.nodes.Seats.{TreeSeat, tree_seen, turns_seen}
+use Rattle.floor_laws.specs.table.nodes.TurnSeats.{GaveTreeTurn}
+use Rattle.floor_laws.specs.table.nodes.EntrySeats.{MayAdmitLatest, admission_at}
+use Rattle.floor_laws.specs.table.nodes.FloorSeats.{floor_seat, tasks_out}
+use Rattle.floor_laws.specs.table.nodes.Follows.{FollowedPhase}
 use Rattle.task_floor.specs.Committing.{HasAdmitted, HasCommittedBeside, made_in, with_made}
 use Rattle.task_floor.specs.Holding.{HoldsChildBeside, HoldsDrawnBeside, HoldsOneBeside, HoldsReadyBeside, HoldsTaskBeside}
 use Rattle.task_floor.specs.Leaving.{HasLeftTask, MayFinishTask, MayGiveNew}

@@ -11,7 +11,7 @@ use Rattle.prefix_tree.specs.Prefix.{IsPrefix}
 use Rattle.prefix_tree.specs.Nodes.{path_of, IsParent}
 use Rattle.prefix_tree.proofs.PrefixLemmas.{IsPrefix-trans}
 use Rattle.effect_tree.proofs.SolidLemmas.{Stands, Stands-set, same_solid, take_while-other, take_while-solid, unstarred_stands}
-use Rattle.admission_laws.specs.admission_core.States.{IsAbove, IsApartBelow, IsPlaceOf}
+use Rattle.floor_laws.specs.admission.admission_core.States.{IsAbove, IsApartBelow, IsPlaceOf}
 
 -- if the solid front of a list begins with an element, the first of the list is solid
 solid_first : (a : Elem) (rest : List Elem) (x : Elem) (xs : List Elem) → IsPrefix (a ∷ rest) (take_while is_solid (x ∷ xs)) → (is_solid x ≡ true) × IsPrefix (a ∷ rest) (x ∷ take_while is_solid xs)

@@ -3,8 +3,8 @@ use Rattle.std.proofs.Common.{◌≡◌, ◌≢◌, ℕ, zero, suc, ◌+◌, ◌
 use Rattle.region_paths.specs.declared.elements.Elem.{Elem}
 use Rattle.prefix_tree.specs.Prefix.{IsPrefix}
 use Rattle.prefix_tree.specs.Nodes.{path_of, IsParent, IsTreeOfPaths}
-use Rattle.admission_laws.specs.admission_core.States.{IsAbove, ActivityIsOver}
-use Rattle.admission_laws.proofs.admission_core.TreeLemmas.{above_refl, above_trans, over_parent, parent_above, root_lowest}
+use Rattle.floor_laws.specs.admission.admission_core.States.{IsAbove, ActivityIsOver}
+use Rattle.floor_laws.proofs.admission.admission_core.TreeLemmas.{above_refl, above_trans, over_parent, parent_above, root_lowest}
 use Rattle.tree_admit.specs.ways.Ways.{longest, room_below}
 
 module _ (nodes : List (List Elem)) (tree : IsTreeOfPaths nodes) where

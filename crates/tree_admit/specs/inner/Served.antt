@@ -1,8 +1,8 @@
 -- What a stand's view of the floor is after it has served one task.
 use Rattle.std.specs.Prelude.{◌≡◌, ◌≢◌, ℕ, Some}
-use Rattle.floor_rule.specs.declared.view.HeldTurn.{HeldTurn}
-use Rattle.floor_table.specs.FloorOf.{turn_in}
-use Rattle.floor_table.specs.declared.view.View.{View}
+use Rattle.floor_laws.specs.declared.rule.view.HeldTurn.{HeldTurn}
+use Rattle.floor_laws.specs.table.FloorOf.{turn_in}
+use Rattle.floor_laws.specs.declared.table.view.View.{View}
 
 -- The second view has drawn no entry since the first one, and has the turns that the first one has. It may have a turn of task t
 -- beside them.

@@ -2,13 +2,13 @@
 use Rattle.std.specs.Prelude.{◌<◌, ℕ}
 use Rattle.twe_base.specs.Limits.{Bounds}
 use Rattle.twe_program.specs.Program.{Program}
-use Rattle.twe_machine.specs.declared.state.State.{State}
-use Rattle.twe_machine.specs.declared.state.TaskStatus.TheVariants as status
-use Rattle.twe_machine.specs.Legal.{MayAdmit}
-use Rattle.twe_machine.specs.Rows.{HasStatus}
-use Rattle.floor_rule.specs.Fitting.{IsMade}
-use Rattle.floor_table.specs.Alone.{IsAloneAt}
-use Rattle.floor_table.specs.declared.view.View.{View}
+use Rattle.machine_state.specs.declared.state.State.{State}
+use Rattle.machine_state.specs.declared.state.TaskStatus.TheVariants as status
+use Rattle.machine_state.specs.Legal.{MayAdmit}
+use Rattle.machine_state.specs.Rows.{HasStatus}
+use Rattle.floor_laws.specs.rule.Fitting.{IsMade}
+use Rattle.floor_laws.specs.table.Alone.{IsAloneAt}
+use Rattle.floor_laws.specs.declared.table.view.View.{View}
 use Rattle.task_floor.specs.declared.steps.served.Served.{Served}
 use Rattle.task_floor.specs.declared.steps.served.Served.TheVariants as served
 use Rattle.tree_admit.specs.declared.serving.admission.Admission.{Admission}

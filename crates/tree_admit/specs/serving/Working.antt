@@ -3,18 +3,18 @@ use Rattle.std.specs.Prelude.{◌≡◌, ◌≢◌, ◌⊎◌, ◌++◌, ℕ, []
 use Rattle.seg_journal.specs.declared.journal.End.TheVariants as ends
 use Rattle.seg_journal.specs.declared.moves.Kind.TheVariants.{Admit}
 use Rattle.seg_journal.specs.declared.numbered.NumberedEntry.{NumberedEntry}
-use Rattle.floor_rule.specs.declared.view.HeldTurn.{HeldTurn}
-use Rattle.floor_rule.specs.declared.view.Phase.{Phase}
-use Rattle.floor_rule.specs.declared.view.Phase.TheVariants as phases
-use Rattle.floor_rule.specs.Rows.{phase_of}
+use Rattle.floor_laws.specs.declared.rule.view.HeldTurn.{HeldTurn}
+use Rattle.floor_laws.specs.declared.rule.view.Phase.{Phase}
+use Rattle.floor_laws.specs.declared.rule.view.Phase.TheVariants as phases
+use Rattle.floor_laws.specs.rule.Rows.{phase_of}
 use Rattle.twe_base.specs.Limits.{Bounds}
 use Rattle.twe_program.specs.Program.{Program}
-use Rattle.floor_table.specs.Added.{IsAdded}
+use Rattle.floor_laws.specs.table.Added.{IsAdded}
 use Rattle.task_floor.specs.steps.Working.{HasFound, HasRunOne, SameStand}
 use Rattle.task_floor.specs.declared.steps.served.Served.{Served}
 use Rattle.task_floor.specs.declared.steps.served.Served.TheVariants as served
-use Rattle.floor_table.specs.nodes.FloorSeats.{floor_seat}
-use Rattle.floor_table.specs.nodes.Seats.{TreeSeat}
+use Rattle.floor_laws.specs.table.nodes.FloorSeats.{floor_seat}
+use Rattle.floor_laws.specs.table.nodes.Seats.{TreeSeat}
 use Rattle.task_floor.specs.Resuming.{WasNotDone}
 use Rattle.task_floor.specs.Stands.{TreeStand, floor_stand}
 use Rattle.task_floor.specs.Turns.{FoundBusy}

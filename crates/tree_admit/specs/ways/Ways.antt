@@ -3,7 +3,7 @@ use Rattle.std.specs.Prelude.{◌⊎◌, ◌-◌, ℕ, List, [], ◌∷◌, leng
 use Rattle.region_paths.specs.declared.elements.Elem.{Elem}
 use Rattle.effect_sets.specs.declared.effects.Effect.{Effect}
 use Rattle.prefix_tree.specs.Nodes.{path_of, IsParent}
-use Rattle.admission_laws.specs.admission_core.States.{IsApartBelow}
+use Rattle.floor_laws.specs.admission.admission_core.States.{IsApartBelow}
 
 -- the number of elements of the longest path
 abbrev pub longest : List (List Elem) → ℕ

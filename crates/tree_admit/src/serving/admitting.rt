@@ -1,11 +1,11 @@
 //! How a worker admits a task.
 ghost use Rattle.std.specs.Prelude.{◌≡◌, ◌<◌, IfOk};
-ghost use Rattle.twe_machine.specs.declared.state.TaskStatus.TheVariants.{Enabled};
-ghost use Rattle.floor_rule.specs.declared.view.HeldTurn.{HeldTurn};
-ghost use Rattle.floor_rule.specs.declared.view.Phase.TheVariants.{Made};
-ghost use Rattle.floor_rule.specs.Rows.{phase_of};
-ghost use Rattle.floor_table.specs.Added.{HasGrown};
-ghost use Rattle.floor_table.specs.nodes.Seats.{TreeSeat};
+ghost use Rattle.machine_state.specs.declared.state.TaskStatus.TheVariants.{Enabled};
+ghost use Rattle.floor_laws.specs.declared.rule.view.HeldTurn.{HeldTurn};
+ghost use Rattle.floor_laws.specs.declared.rule.view.Phase.TheVariants.{Made};
+ghost use Rattle.floor_laws.specs.rule.Rows.{phase_of};
+ghost use Rattle.floor_laws.specs.table.Added.{HasGrown};
+ghost use Rattle.floor_laws.specs.table.nodes.Seats.{TreeSeat};
 ghost use Rattle.task_floor.specs.Holding.{HoldsDrawnBeside, HoldsTaskBeside};
 ghost use Rattle.tree_admit.specs.serving.Alone.{AdmitsIfAlone};
 ghost use Rattle.tree_admit.specs.serving.Working.{HasTriedToAdmit, SameTreeStand};
@@ -15,9 +15,9 @@ use crate::serving::admission::Admission;
 use crate::serving::worker::{Holding, TreeWorker, effects_in};
 use crate::serving::workshop::Workshop;
 use crate::{Admittance, try_admit};
-use floor_rule::Phase;
-use floor_table::Named;
-use floor_table::nodes::Planted;
+use floor_laws::rule::Phase;
+use floor_laws::table::Named;
+use floor_laws::table::nodes::Planted;
 use std::sync::Wait;
 use twe_base::Memory;
 

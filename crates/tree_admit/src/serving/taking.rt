@@ -1,16 +1,16 @@
 //! How a worker takes a task in hand.
 ghost use Rattle.std.specs.Prelude.{◌≡◌, ◌<◌, IfOk, IfErr, OnErr};
-ghost use Rattle.twe_machine.specs.declared.state.State.{State};
-ghost use Rattle.floor_rule.specs.Fitting.{IsMade};
-ghost use Rattle.floor_table.specs.Alone.{IsAloneAt};
+ghost use Rattle.machine_state.specs.declared.state.State.{State};
+ghost use Rattle.floor_laws.specs.rule.Fitting.{IsMade};
+ghost use Rattle.floor_laws.specs.table.Alone.{IsAloneAt};
 ghost use Rattle.task_floor.specs.Turns.{FoundBusy};
 ghost use Rattle.tree_admit.specs.serving.Working.{SameTreeStand};
 ghost use Rattle.tree_admit.specs.serving.inner.Taking.{HasTakenInHand};
 
 use crate::serving::worker::{Holding, TreeWorker};
 use crate::serving::workshop::Workshop;
-use floor_table::Named;
-use floor_table::nodes::Planted;
+use floor_laws::table::Named;
+use floor_laws::table::nodes::Planted;
 use task_floor::steps::Busy;
 
 impl<'a, N: Named + Planted> Workshop<'a, N> {

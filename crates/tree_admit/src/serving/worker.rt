@@ -3,7 +3,7 @@ ghost use Rattle.std.specs.Prelude.{◌≡◌, ℕ};
 ghost use Rattle.task_floor.specs.Holding.{IsIdleBeside};
 
 use effect_sets::Effect;
-use floor_table::KeptSlot;
+use floor_laws::table::KeptSlot;
 use std::marker::Model;
 use task_floor::{EntryLog, Stand, Tally};
 

@@ -1,13 +1,13 @@
 //! How a worker runs the next segment of a task.
 ghost use Rattle.std.specs.Prelude.{◌≡◌, ◌<◌, ℕ, IfOk};
-ghost use Rattle.floor_rule.specs.declared.view.HeldTurn.{HeldTurn};
+ghost use Rattle.floor_laws.specs.declared.rule.view.HeldTurn.{HeldTurn};
 ghost use Rattle.task_floor.specs.steps.Committing.{status_after};
 ghost use Rattle.task_floor.specs.steps.Working.{HasRunOne};
-ghost use Rattle.floor_table.specs.Layout.{word_of_phase};
-ghost use Rattle.floor_table.specs.nodes.Alone.{LearnsAlone};
-ghost use Rattle.floor_table.specs.nodes.FloorSeats.{floor_seat};
-ghost use Rattle.floor_table.specs.nodes.Follows.{FollowedPhase};
-ghost use Rattle.floor_table.specs.nodes.Seats.{TreeSeat};
+ghost use Rattle.floor_laws.specs.table.Layout.{word_of_phase};
+ghost use Rattle.floor_laws.specs.table.nodes.Alone.{LearnsAlone};
+ghost use Rattle.floor_laws.specs.table.nodes.FloorSeats.{floor_seat};
+ghost use Rattle.floor_laws.specs.table.nodes.Follows.{FollowedPhase};
+ghost use Rattle.floor_laws.specs.table.nodes.Seats.{TreeSeat};
 ghost use Rattle.task_floor.specs.Holding.{HoldsDrawnBeside, HoldsReadyBeside, HoldsTaskBeside};
 ghost use Rattle.tree_admit.specs.serving.Alone.{ServesIfAlone};
 ghost use Rattle.tree_admit.specs.serving.Working.{HasServedBeside, SameTreeStand};
@@ -16,20 +16,20 @@ ghost use Rattle.tree_admit.specs.serving.inner.InHand.{HasEndedIn, HasTakenSinc
 use crate::serving::worker::{Holding, TreeWorker, effects_in};
 use crate::serving::workshop::Workshop;
 use crate::{place_spawned, release};
-use floor_rule::Phase;
-use floor_table::nodes::Planted;
-use floor_table::{KeptSlot, Named};
-use run_gates::Gate;
-use seg_exec::Stop;
+use floor_laws::rule::Phase;
+use floor_laws::table::nodes::Planted;
+use floor_laws::table::{KeptSlot, Named};
 use seg_journal::End;
+use seg_meaning::Stop;
 use std::sync::Wait;
+use steal_pool::gates::Gate;
 use task_floor::Committed;
 use task_floor::steps::{Readiness, Served, an_end_says_the_status};
 use twe_base::Memory;
 
 impl<'a, N: Named + Planted> Workshop<'a, N> {
     /// What the phase word of a task says: the worker has looked at it. It draws no entry.
-    pub fn glance(&self, worker: &mut TreeWorker, task: u32) -> Phase
+    pub fn phase(&self, worker: &mut TreeWorker, task: u32) -> Phase
         requires here { worker.old.table_id ≡ self.now }
         requires task { task < N.lim.tasks }
         ensures found { FollowedPhase N.lim worker.old.me task (word_of_phase result) worker.new.me }

@@ -3,8 +3,8 @@ ghost use Rattle.std.specs.Prelude.{◌≡◌};
 
 use crate::Footing;
 use effect_tree::Shape;
-use floor_table::Named;
-use floor_table::nodes::Planted;
+use floor_laws::table::Named;
+use floor_laws::table::nodes::Planted;
 use std::alloc::Global;
 use std::marker::Model;
 use task_floor::Floor;
@@ -52,6 +52,18 @@ impl<'a, N: Named + Planted> Workshop<'a, N> {
             shape,
             floor,
         }
+    }
+
+    /// How many tasks may be made.
+    pub fn tasks(&self) -> u32
+        ensures { result ≡ N.lim.tasks }
+    {
+        self.lim.tasks
+    }
+
+    /// Where memory comes from.
+    pub fn alloc(&self) -> Global {
+        self.alloc
     }
 
     /// What a worker with this number has to know of itself in the tree, if its stand has so many slots out.

@@ -4,7 +4,7 @@ ghost use Rattle.region_paths.specs.declared.elements.Elem.{Elem};
 ghost use Rattle.prefix_tree.specs.Nodes.{IsParent, IsTreeOfPaths};
 ghost use Rattle.effect_sets.specs.declared.effects.Effect.{Effect};
 ghost use Rattle.effect_sets.specs.Interference.{Interferes, statically_interferes};
-ghost use Rattle.admission_laws.specs.admission_core.States.{IsAbove};
+ghost use Rattle.floor_laws.specs.admission.admission_core.States.{IsAbove};
 ghost use Rattle.tree_admit.specs.ways.Ways.{room_below};
 
 /// Two nodes right below one node that lie above one and the same node are one.

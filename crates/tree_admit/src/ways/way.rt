@@ -1,6 +1,6 @@
 //! The next node on the way to another.
 ghost use Rattle.prefix_tree.specs.Nodes.{IsParent};
-ghost use Rattle.admission_laws.specs.admission_core.States.{IsAbove, ActivityIsOver};
+ghost use Rattle.floor_laws.specs.admission.admission_core.States.{IsAbove, ActivityIsOver};
 
 use effect_tree::Shape;
 

@@ -8,7 +8,7 @@ use Rattle.twe_program.specs.Program.{Program}
 use Rattle.held_span.specs.declared.pair.HeldPair.{HeldPair}
 use Rattle.held_span.specs.declared.spanning.HeldProfile.{HeldProfile}
 use Rattle.span_profile.specs.declared.advising.Advice.{Advice}
-use Rattle.twe_advise.specs.declared.paces.Pace.{Pace}
+use Rattle.twe_advise.specs.declared.paces.PacedTime.{PacedTime}
 use Rattle.twe_advise.specs.Forms.{advice_text}
 use Rattle.twe_advise.specs.Paces.{ArePaces, worker_counts}
 use Rattle.twe_advise.specs.declared.words.Form.{Form}
@@ -17,6 +17,6 @@ use Rattle.twe_advise.specs.declared.words.Form.{Form}
 -- that held most
 abbrev pub AdvisedBy : Form → List Item → Program → Advice → HeldProfile → List HeldPair → Answer → Type 0
 AdvisedBy form items p advice held pairs answer =
-    (paces : List Pace) × ArePaces advice.profile.starts advice.profile.ends worker_counts paces
+    (paces : List PacedTime) × ArePaces advice.profile.starts advice.profile.ends worker_counts paces
     × (answer ≡ on_out Done (advice_text form p items advice.profile.work advice.profile.span held.span held.holds pairs paces
     advice.works advice.tasks advice.profile.starts advice.steps))

@@ -14,13 +14,13 @@ use Rattle.effect_tree.proofs.PartPaths.{IsTreeOfPaths-elems, elems-snoc, length
 use Rattle.wait_graph.specs.declared.tasks.Link.{Link}
 use Rattle.twe_machine.specs.declared.book.TaskBook.{TaskBook}
 use Rattle.twe_machine.specs.declared.book.NodeTasks.{NodeTasks}
-use Rattle.twe_machine.specs.declared.state.State.{State}
-use Rattle.twe_machine.specs.declared.state.TaskStatus.TheVariants.{Enabled}
+use Rattle.machine_state.specs.declared.state.State.{State}
+use Rattle.machine_state.specs.declared.state.TaskStatus.TheVariants.{Enabled}
 use Rattle.twe_machine.specs.Books.{NodeIs, IsAtOrBelow, IsInWay, NodeHas, NodesAreDecided, IsPlacedIn}
 use Rattle.twe_machine.specs.inner.Nodes.{EntriesKeep, NodesKeep}
 use Rattle.twe_machine.specs.Queues.{IsQueued, IsDecided, IsNoBar}
-use Rattle.twe_machine.specs.Rows.{HasStatus}
-use Rattle.twe_machine.proofs.lists.Places.{got_one, set_cases, set_other, set_same}
+use Rattle.machine_state.specs.Rows.{HasStatus}
+use Rattle.machine_state.proofs.lists.Places.{got_one, set_cases, set_other, set_same}
 
 -- Nodes.
 

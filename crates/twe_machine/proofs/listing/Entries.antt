@@ -6,8 +6,8 @@ use Rattle.std.proofs.lemmas.List.{length-take-le}
 use Rattle.std.proofs.lemmas.Option.{slice_get_within}
 use Rattle.wait_graph.specs.declared.tasks.Link.{Link}
 use Rattle.twe_machine.specs.declared.queue.Queued.{Queued}
-use Rattle.twe_machine.specs.Queues.{DecidesAt, FirstLead, IsQueued, IsDecided, MayName}
-use Rattle.twe_machine.proofs.lists.Places.{got_one, put_before, put_cases, put_last}
+use Rattle.twe_machine.specs.Queues.{DecidesAt, FirstKeepWaiting, IsQueued, IsDecided, MayName}
+use Rattle.machine_state.proofs.lists.Places.{got_one, put_before, put_cases, put_last}
 
 pub got_before : {A : Type 0} (xs : List A) (n i : ℕ) (a : A) → i < n → slice_get xs i ≡ Some a → slice_get (take n xs) i ≡ Some a
 got_before [] n i a low e = absurd (cc (e))
@@ -58,7 +58,7 @@ task_late entries n s e f some last at same h =
     ]
 
 module _ (links : List Link) where
-  first_put : (entries : List Queued) (e : Queued) (d u : ℕ) → d ≤ length entries → FirstLead links entries d u → FirstLead links (entries ++ e ∷ []) d u
+  first_put : (entries : List Queued) (e : Queued) (d u : ℕ) → d ≤ length entries → FirstKeepWaiting links entries d u → FirstKeepWaiting links (entries ++ e ∷ []) d u
   first_put entries e d u within old j g low at =
       elim (put_cases entries e j g at) [
         | inl before ↦ old j g low before
@@ -81,7 +81,7 @@ module _ (links : List Link) where
               elim (put_cases entries e d f at) [
                 | inl before ↦ absurd (let low = slice_get_within entries d f before in omega (arith, low, own.0))
                 | inr last ↦
-                    subst (λ (g : Queued). FirstLead links (entries ++ e ∷ []) d g.task) last.1
+                    subst (λ (g : Queued). FirstKeepWaiting links (entries ++ e ∷ []) d g.task) last.1
                     (first_put entries e d e.task (omega (arith, own.0)) own.1)
               ],
         )
@@ -109,7 +109,7 @@ module _ (links : List Link) where
       (h.0, λ f there j g low here. h.1 f (got_taken entries n d f there) j g low (got_taken entries n j g here))
 
   -- the last entry decides from now on, if those before it lead to its task
-  pub decided_late : (entries : List Queued) (n task : ℕ) → n < length entries → IsDecided links entries → FirstLead links entries n task
+  pub decided_late : (entries : List Queued) (n task : ℕ) → n < length entries → IsDecided links entries → FirstKeepWaiting links entries n task
       → IsDecided links (take n entries ++ record { task = task; decider = Some n } ∷ [])
   decided_late entries n task within old lead =
       let long : length (take n entries) ≡ n = length-take-le n entries (omega (arith, within)) in

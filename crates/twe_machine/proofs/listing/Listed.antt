@@ -16,24 +16,24 @@ use Rattle.twe_program.specs.Program.{Program}
 use Rattle.twe_program.specs.WellFormed.{IsWellFormed}
 use Rattle.twe_machine.specs.declared.book.NodeTasks.{NodeTasks}
 use Rattle.twe_machine.specs.declared.enabled_tasks.EnabledTasks.{EnabledTasks}
-use Rattle.twe_machine.specs.declared.state.State.{State}
-use Rattle.twe_machine.specs.declared.state.TaskRow.{TaskRow}
-use Rattle.twe_machine.specs.declared.state.TaskStatus.TheVariants.{Enabled, Made}
+use Rattle.machine_state.specs.declared.state.State.{State}
+use Rattle.machine_state.specs.declared.state.TaskRow.{TaskRow}
+use Rattle.machine_state.specs.declared.state.TaskStatus.TheVariants.{Enabled, Made}
 use Rattle.twe_machine.specs.Books.{AreDecided, IsEntered, NodesAreDecided}
-use Rattle.twe_machine.specs.Changes.{LeavesAlone, made_by}
-use Rattle.twe_machine.specs.Legal.{MayAdmit, MayMove, MayTake}
+use Rattle.machine_state.specs.Changes.{LeavesAlone, made_by}
+use Rattle.machine_state.specs.Legal.{MayAdmit, MayMove, MayTake}
 use Rattle.twe_machine.specs.Listings.{HasEffect, IsListing, WasListing}
-use Rattle.twe_machine.specs.Moves.{move_result}
+use Rattle.machine_state.specs.Moves.{move_result}
 use Rattle.twe_machine.specs.Queues.{IsNoBar}
-use Rattle.twe_machine.specs.Rows.{HasStatus, IsRow}
-use Rattle.twe_machine.specs.Runs.{IsReached}
-use Rattle.twe_machine.proofs.tasks.LeftAlone.{moves_leave_alone}
-use Rattle.twe_machine.proofs.tasks.OtherTasks.{after, other}
+use Rattle.machine_state.specs.Rows.{HasStatus, IsRow}
+use Rattle.machine_state.specs.Runs.{IsReached}
+use Rattle.machine_state.proofs.tasks.LeftAlone.{moves_leave_alone}
+use Rattle.machine_state.proofs.tasks.OtherTasks.{after, other}
 use Rattle.twe_machine.proofs.listing.Leading.{decided_stays}
-use Rattle.twe_machine.proofs.lists.Places.{below_there, got_one}
-use Rattle.twe_machine.proofs.standing.ReachedStands.{reached_stands}
-use Rattle.twe_machine.proofs.standing.SettlesNext.{as_many_links}
-use Rattle.twe_machine.proofs.standing.Standing.{Stands}
+use Rattle.machine_state.proofs.lists.Places.{below_there, got_one}
+use Rattle.machine_state.proofs.standing.ReachedStands.{reached_stands}
+use Rattle.machine_state.proofs.standing.SettlesNext.{as_many_links}
+use Rattle.machine_state.proofs.standing.Standing.{Stands}
 
 -- a move makes one task at most
 pub made_one : (end : End) → made_by end ≤ 1

@@ -1,9 +1,9 @@
 -- Tasks that meet a task.
 use Rattle.std.specs.Prelude.{◌≢◌, ℕ}
-use Rattle.twe_machine.specs.declared.state.State.{State}
-use Rattle.twe_machine.specs.declared.state.TaskStatus.TheVariants.{Enabled}
-use Rattle.twe_machine.specs.Legal.{Interfere}
-use Rattle.twe_machine.specs.Rows.{HasStatus}
+use Rattle.machine_state.specs.declared.state.State.{State}
+use Rattle.machine_state.specs.declared.state.TaskStatus.TheVariants.{Enabled}
+use Rattle.machine_state.specs.Legal.{Interfere}
+use Rattle.machine_state.specs.Rows.{HasStatus}
 
 -- s meets t: it is another task, it is enabled, and its effects interfere with those of t
 abbrev pub Meets : State → ℕ → ℕ → Type 0

@@ -2,11 +2,11 @@
 use Rattle.std.specs.Prelude.{◌≡◌, ℕ, Bool, true, false, List, Some, slice_get}
 use Rattle.twe_machine.specs.declared.book.NodeTasks.{NodeTasks}
 use Rattle.twe_machine.specs.declared.queue.Queued.{Queued}
-use Rattle.twe_machine.specs.declared.state.State.{State}
-use Rattle.twe_machine.specs.declared.state.TaskStatus.TheVariants.{Enabled}
+use Rattle.machine_state.specs.declared.state.State.{State}
+use Rattle.machine_state.specs.declared.state.TaskStatus.TheVariants.{Enabled}
 use Rattle.twe_machine.specs.Books.{NodeIs}
 use Rattle.twe_machine.specs.Queues.{IsQueued}
-use Rattle.twe_machine.specs.Rows.{HasStatus}
+use Rattle.machine_state.specs.Rows.{HasStatus}
 
 -- each enabled task of the first entries is one of the others
 abbrev pub EntriesKeep : State → List Queued → List Queued → Type 0

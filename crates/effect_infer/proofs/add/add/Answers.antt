@@ -1,6 +1,6 @@
 use Rattle.std.proofs.Common.{◌≡◌, List, inl, inr, sym, subst}
 use Rattle.std.proofs.lemmas.Result.{on_ok_weaker}
-use Rattle.effect_infer.specs.declared.found.Found.{Found}
+use Rattle.effect_infer.specs.declared.found.FoundNeed.{FoundNeed}
 use Rattle.effect_infer.specs.Covered.{SummaryGrows, IsMet}
 use Rattle.effect_infer.proofs.Growth.{grows-same, grows-push}
 use Rattle.effect_infer.proofs.add.add.Goals as goal
@@ -18,5 +18,5 @@ returns-then-crowded c =
 -- it is added
 pub returns : goal.returns
 returns c =
-    on_ok_weaker c.push.result (λ is. subst (λ (all : List Found). SummaryGrows c.args.all.now all (λ f. f ≡ c.args.found)) (sym is) (grows-push c.args.all.now c.args.found))
+    on_ok_weaker c.push.result (λ is. subst (λ (all : List FoundNeed). SummaryGrows c.args.all.now all (λ f. f ≡ c.args.found)) (sym is) (grows-push c.args.all.now c.args.found))
     c.push.ensures.ok

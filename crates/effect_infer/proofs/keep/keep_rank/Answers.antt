@@ -1,7 +1,7 @@
 use Rattle.std.proofs.Common.{◌≡◌, ◌<◌, ◌+◌, List, ℕ, true, length, refl, sym, ap, ◌∙◌, subst, arith}
 use Rattle.std.specs.List.{Contains}
 use Rattle.effect_infer.specs.declared.needs.need.Need.{Need}
-use Rattle.effect_infer.specs.declared.found.Found.{Found}
+use Rattle.effect_infer.specs.declared.found.FoundNeed.{FoundNeed}
 use Rattle.effect_infer.specs.Rows.{row, with_item}
 use Rattle.effect_infer.specs.Kept.{KeepsNeeds, is_wanted, method_rank}
 use Rattle.effect_infer.proofs.Keeping.{DoneUpTo, rank-start, rank-other, rank-unwanted, rank-wanted, rank-end}

@@ -1,7 +1,7 @@
 use Rattle.std.proofs.Common.{◌≡◌, ◌≤◌, inl, inr, sym, subst, arith}
 use Rattle.std.specs.List.{Contains}
 use Rattle.std.proofs.lemmas.List.{take_all}
-use Rattle.effect_infer.specs.declared.found.Found.{Found}
+use Rattle.effect_infer.specs.declared.found.FoundNeed.{FoundNeed}
 use Rattle.effect_infer.specs.Kept.{method_rank}
 use Rattle.effect_infer.proofs.Growth.{taken-cases}
 use Rattle.effect_infer.proofs.keep.top_rank.Goals as goal
@@ -17,7 +17,7 @@ loop-found-preserved c =
         | inl before ↦ let below = c.loop-found.invariant.top need before in omega (arith, below, first)
         | inr e ↦
             let last : method_rank c.found-item.result.need ≤ c.higher-top.result = omega (arith, here, second) in
-            subst (λ (f : Found). method_rank f.need ≤ c.higher-top.result) e last
+            subst (λ (f : FoundNeed). method_rank f.need ≤ c.higher-top.result) e last
       ];
       small = c.higher-top.ensures.small c.loop-found.invariant.small c.rank.ensures.small;
     }

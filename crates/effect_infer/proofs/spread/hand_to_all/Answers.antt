@@ -1,6 +1,6 @@
 use Rattle.std.proofs.Common.{◌≡◌, ◌+◌, List, ℕ, get_or, take, refl, sym, ap, ◌∙◌, subst, arith}
 use Rattle.std.proofs.lemmas.List.{take_all, get_or_default}
-use Rattle.effect_infer.specs.declared.found.Found.{Found}
+use Rattle.effect_infer.specs.declared.found.FoundNeed.{FoundNeed}
 use Rattle.effect_infer.specs.Covered.{SummaryGrows, IsHandedBy}
 use Rattle.effect_infer.proofs.Growth.{grows-none, none-taken, places-more, places-skip}
 use Rattle.effect_infer.proofs.spread.hand_to_all.Goals.{in-Some+in_ok-hand_on, in_default}
@@ -20,7 +20,7 @@ loop-place-preserved c =
     let i = c.loop-place.place-index in
     let place : ℕ = get_or places i 0 in
     let is : get_or places i place ≡ place = get_or_default places i place 0 c.loop-place-test.true in
-    let P : List Found → Type 0 = λ all. SummaryGrows c.args.all.now all (IsHandedBy calls (take (i + 1) places) method need) in
+    let P : List FoundNeed → Type 0 = λ all. SummaryGrows c.args.all.now all (IsHandedBy calls (take (i + 1) places) method need) in
     elim c.match-get.branch [
       | in-Some+in_ok-hand_on w ↦
           subst P (sym w.all-is)

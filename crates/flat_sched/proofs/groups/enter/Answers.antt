@@ -1,5 +1,5 @@
 use Rattle.std.proofs.Common.{◌≡◌, true, rules, sym}
-use Rattle.twe_machine.specs.Rows.{IsRow}
+use Rattle.machine_state.specs.Rows.{IsRow}
 use Rattle.flat_sched.proofs.Alike.{alike_more, covered_write}
 use Rattle.flat_sched.proofs.groups.enter.Goals as goal
 

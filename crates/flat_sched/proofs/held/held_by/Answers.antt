@@ -1,6 +1,6 @@
 use Rattle.std.proofs.Common.{ap, ◌∙◌, length}
 use Rattle.std.proofs.lemmas.List.{length-map}
-use Rattle.twe_machine.specs.Rows.{link_of_row}
+use Rattle.machine_state.specs.Rows.{link_of_row}
 use Rattle.flat_sched.proofs.held.held_by.Goals as goal
 
 -- there is a link for each row

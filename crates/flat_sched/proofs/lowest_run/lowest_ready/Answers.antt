@@ -2,7 +2,7 @@ use Rattle.std.proofs.Common.{◌≡◌, ◌<◌, ◌+◌, ℕ, Option, sym, sub
 use Rattle.std.specs.Prelude.{IfNone, IfSome}
 use Rattle.twe_program.specs.WellFormed.{IsWellFormed}
 use Rattle.seg_journal.specs.declared.moves.Move.{Move}
-use Rattle.twe_machine.specs.Legal.{MayMove}
+use Rattle.machine_state.specs.Legal.{MayMove}
 use Rattle.flat_sched.specs.declared.books.Books.{Books}
 use Rattle.flat_sched.specs.inner.Books.{Keeps, KeepsFrom, Looked}
 use Rattle.flat_sched.specs.inner.Lists.{IsReady, IsReadyFrom}

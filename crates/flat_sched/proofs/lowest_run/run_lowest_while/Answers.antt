@@ -2,15 +2,15 @@ use Rattle.std.proofs.Common.{◌≡◌, ◌+◌, List, [], ◌∷◌, ◌++◌,
 use Rattle.std.specs.Prelude.{IfSome}
 use Rattle.seg_journal.specs.declared.journal.Entry.{Entry}
 use Rattle.seg_journal.specs.declared.moves.Move.{Move}
-use Rattle.twe_machine.specs.declared.ending.Outcome.TheVariants.{Unfinished}
-use Rattle.twe_machine.specs.LowestFirst.{IsLowest}
+use Rattle.machine_state.specs.declared.ending.Outcome.TheVariants.{Unfinished}
+use Rattle.machine_state.specs.LowestFirst.{IsLowest}
 use Rattle.flat_sched.specs.inner.Books.{Keeps}
 use Rattle.flat_sched.specs.inner.Lists.{IsReady}
 use Rattle.twe_base.specs.Limits.{Bounds, IsWithin}
 use Rattle.twe_program.specs.WellFormed.{IsWellFormed}
-use Rattle.twe_machine.specs.declared.state.State.{State}
-use Rattle.twe_machine.specs.Moves.{move_result}
-use Rattle.twe_machine.specs.Runs.{IsOutcome, entry_of}
+use Rattle.machine_state.specs.declared.state.State.{State}
+use Rattle.machine_state.specs.Moves.{move_result}
+use Rattle.machine_state.specs.Runs.{IsOutcome, entry_of}
 use Rattle.flat_sched.proofs.Going.{IsGoing, at_start, goes_on, run_goes_on}
 use Rattle.flat_sched.proofs.lowest_run.run_lowest_while.Goals as goal
 

@@ -1,13 +1,13 @@
 use Rattle.std.proofs.Common.{◌≡◌, ◌≤◌, ◌<◌, ◌+◌, ℕ, ap, sym, subst, arith, length}
 use Rattle.seg_journal.specs.declared.journal.End.{End}
 use Rattle.twe_program.specs.WellFormed.{IsWellFormed}
-use Rattle.twe_machine.specs.declared.state.State.{State}
+use Rattle.machine_state.specs.declared.state.State.{State}
 use Rattle.twe_machine.specs.Listings.{IsListing}
-use Rattle.twe_machine.specs.Moves.{move_result}
+use Rattle.machine_state.specs.Moves.{move_result}
 use Rattle.twe_machine.proofs.listing.Listed.{made_one, was_listed}
-use Rattle.twe_machine.proofs.tasks.LeftAlone.{moves_leave_alone}
-use Rattle.twe_machine.proofs.tasks.Movers.{mover_there}
-use Rattle.twe_machine.proofs.standing.ReachedStands.{reached_stands}
+use Rattle.machine_state.proofs.tasks.LeftAlone.{moves_leave_alone}
+use Rattle.machine_state.proofs.tasks.Movers.{mover_there}
+use Rattle.machine_state.proofs.standing.ReachedStands.{reached_stands}
 use Rattle.flat_sched.specs.inner.Books.{Keeps, Noted}
 use Rattle.flat_sched.proofs.HeldUp.{linked}
 use Rattle.flat_sched.proofs.Step.{keeps_on}

@@ -1,6 +1,6 @@
 use Rattle.std.proofs.Common.{ℕ, length}
-use Rattle.twe_machine.specs.declared.state.TaskStatus.TheVariants.{Made}
-use Rattle.twe_machine.specs.Rows.{HasStatus}
+use Rattle.machine_state.specs.declared.state.TaskStatus.TheVariants.{Made}
+use Rattle.machine_state.specs.Rows.{HasStatus}
 use Rattle.flat_sched.specs.inner.Lists.{IsReady}
 use Rattle.flat_sched.proofs.passing.take_made.Given as goal
 

@@ -1,9 +1,9 @@
 use Rattle.std.proofs.Common.{◌<◌, ◌≤◌, length, rules, arith, subst}
 use Rattle.std.proofs.lemmas.Result.{IfOk-weaker}
 use mathlib.Core.List.{IsPrefix}
-use Rattle.twe_machine.specs.declared.ending.Outcome.TheVariants.{Unfinished}
-use Rattle.twe_machine.specs.declared.state.State.{State}
-use Rattle.twe_machine.specs.Runs.{IsOutcome}
+use Rattle.machine_state.specs.declared.ending.Outcome.TheVariants.{Unfinished}
+use Rattle.machine_state.specs.declared.state.State.{State}
+use Rattle.machine_state.specs.Runs.{IsOutcome}
 use Rattle.twe_rounds.proofs.Beginnings.{prefix_trans}
 use Rattle.floor_crew.specs.declared.at_rest.RunAtRest.{RunAtRest}
 use Rattle.floor_crew.specs.inner.GoingOn.{HasGoneOn}

@@ -4,7 +4,7 @@ use Rattle.std.proofs.Math.Seq.{take-append_seam}
 use mathlib.Core.List.{IsPrefix}
 use Rattle.task_floor.specs.declared.steps.rest.Rest.{Rest}
 use Rattle.twe_base.specs.Limits.{Bounds}
-use Rattle.twe_machine.specs.Runs.{IsRun}
+use Rattle.machine_state.specs.Runs.{IsRun}
 use Rattle.twe_rounds.proofs.Beginnings.{prefix_self}
 use Rattle.floor_crew.proofs.TaskLimits.{run_same}
 use Rattle.floor_crew.proofs.room.round_within.Goals as goal

@@ -1,5 +1,5 @@
 use Rattle.std.proofs.Common.{List}
-use Rattle.twe_machine.specs.declared.state.TaskRow.{TaskRow}
+use Rattle.machine_state.specs.declared.state.TaskRow.{TaskRow}
 use Rattle.held_span.specs.Freed.{RunEntry}
 use Rattle.held_span.specs.inner.Told.{HoldsBelow, IsTold}
 use Rattle.held_span.proofs.holds.holds_of.Given as goal

@@ -1,6 +1,6 @@
 use Rattle.std.proofs.Common.{[], ◌∷◌, ◌++◌, List, sym, subst, take}
 use Rattle.std.proofs.lemmas.List.{take_all}
-use Rattle.twe_machine.specs.declared.state.TaskRow.{TaskRow}
+use Rattle.machine_state.specs.declared.state.TaskRow.{TaskRow}
 use Rattle.held_span.specs.Gathering.{AreGathered}
 use Rattle.held_span.specs.Rivals.{EffectList}
 use Rattle.held_span.specs.inner.Spanning.{effect_lists}

@@ -4,8 +4,8 @@ use Rattle.std.proofs.lemmas.List.{take_all, take_more}
 use Rattle.seg_journal.specs.declared.journal.End.TheVariants.{Admitted}
 use Rattle.seg_journal.specs.declared.journal.Entry.{Entry}
 use Rattle.seg_journal.specs.declared.moves.Kind.TheVariants.{Admit}
-use Rattle.twe_machine.proofs.tasks.Filled.{reached_filled}
-use Rattle.twe_machine.specs.declared.state.TaskRow.{TaskRow}
+use Rattle.machine_state.proofs.tasks.Filled.{reached_filled}
+use Rattle.machine_state.specs.declared.state.TaskRow.{TaskRow}
 use Rattle.twe_program.specs.WellFormed.{IsWellFormed}
 use Rattle.held_span.specs.Marks.{AreMarksOf}
 use Rattle.held_span.specs.Freed.{stages}

@@ -1,5 +1,5 @@
 use Rattle.std.proofs.Common.{◌∙◌, length, ap}
-use Rattle.twe_machine.specs.declared.state.State.{State}
+use Rattle.machine_state.specs.declared.state.State.{State}
 use Rattle.library_tests.proofs.Cells.{length-initial_values}
 use Rattle.library_tests.proofs.elisions.elide_within.Goals as goal
 

@@ -1,6 +1,6 @@
 use Rattle.std.proofs.Common.{sym, ap, ◌∙◌}
 use Rattle.name_check.specs.inner.First.{first_from}
-use Rattle.name_check.specs.inner.OtherFailures.{paths_failures}
+use Rattle.name_check.specs.OtherFailures.{paths_failures}
 use Rattle.name_check.proofs.PathsOver.{clauses_reported}
 use Rattle.name_check.proofs.limits.check_clauses.Goals as goal
 

@@ -1,6 +1,6 @@
 use Rattle.std.proofs.Common.{◌≡◌, drop}
 use Rattle.name_check.specs.inner.First.{first_from}
-use Rattle.name_check.specs.inner.OtherFailures.{clauses_failures}
+use Rattle.name_check.specs.OtherFailures.{clauses_failures}
 use Rattle.name_check.proofs.limits.check_clauses.Given as goal
 
 -- the first so far and the failures of what is left give the first of all

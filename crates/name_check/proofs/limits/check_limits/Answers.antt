@@ -3,7 +3,7 @@ use Rattle.name_check.specs.declared.rule.NRule.TheVariants.{N5, N7}
 use Rattle.name_check.specs.Ends.{close_of}
 use Rattle.name_check.specs.Limits.{paths_of}
 use Rattle.twe_base.specs.First.{failure_if}
-use Rattle.name_check.specs.inner.OtherFailures.{failures_of_place, parameter_over_limit, path_over_limit, clauses_failures, lacks_return}
+use Rattle.name_check.specs.OtherFailures.{failures_of_place, parameter_over_limit, path_over_limit, clauses_failures, lacks_return}
 use Rattle.name_check.proofs.FirstFailures.{first_of_four}
 use Rattle.name_check.proofs.limits.check_limits.Goals as goal
 

@@ -1,6 +1,6 @@
 use Rattle.std.proofs.Common.{◌≡◌, drop}
 use Rattle.name_check.specs.inner.First.{first_from}
-use Rattle.name_check.specs.inner.OtherFailures.{paths_failures}
+use Rattle.name_check.specs.OtherFailures.{paths_failures}
 use Rattle.name_check.proofs.limits.check_paths.Given as goal
 
 -- the first so far and the failures of what is left give the first of all

@@ -1,5 +1,5 @@
 use Rattle.std.proofs.Common.{◌≡◌, false, drop}
-use Rattle.name_check.specs.inner.OtherFailures.{second_star}
+use Rattle.name_check.specs.OtherFailures.{second_star}
 use Rattle.name_check.proofs.limits.second_star.Given as goal
 
 -- what is left has the second star

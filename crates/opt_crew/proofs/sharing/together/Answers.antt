@@ -7,20 +7,21 @@ use Rattle.std.proofs.Common.{Option, None, Some, IfSome, IfOk, sym, subst}
 use Rattle.std.specs.Prelude.{ok_or}
 use Rattle.std.proofs.sync.Mutex.TheSendSync as mutex
 use Rattle.opt_crew.specs.Keeping.{Keeps}
-use Rattle.opt_crew.specs.contracts.sharing.Shared as Shared
+use Rattle.opt_crew.specs.contracts.sharing.SharedCore as SharedCore
 use Rattle.opt_crew.proofs.round_core.RoundCore.TheSendSync as core
 use Rattle.opt_engine.proofs.hints.Hints.TheSendSync as hints
-use Rattle.twe_rounds.proofs.Crossing.{game_sync, tuple_sync}
+use Rattle.twe_rounds.proofs.Crossing.{tuple_sync}
+use Rattle.opt_crew.proofs.Crossing.{game_sync}
 use Rattle.twe_rounds.proofs.progress.RoundProgress.TheSendSync as progress
 use Rattle.opt_crew.proofs.sharing.together.Goals as goal
 
 -- the workers share the gate, the program, the progress, the hints and the run under its lock
 pub for_each_mut-requires-sync-F : goal.for_each_mut-requires-sync-F
 for_each_mut-requires-sync-F g c κs within =
-    param_sync 2 _ (arg_sync _ no _ (tuple_sync _ _ (shr_sync _ _ (Shared.the_row (record { mir = named 7; lft = κs.1.1.1.1.1.1.1.0 }) (param 1 g.row.R) (param 2 g.row.G) (param 0 g.row.N) g.N.RoundName)
-    (recorded_sync (Shared.the_field (record { mir = named 7; lft = κs.1.1.1.1.1.1.1.0 }) (param 1 g.row.R) (param 2 g.row.G) (param 0 g.row.N) g.N.RoundName).row _ _
-    (Shared.the_type (record { mir = named 7; lft = κs.1.1.1.1.1.1.1.0 }) (param 1 g.row.R) (param 2 g.row.G) (param 0 g.row.N) g.N.RoundName).to_one
-    (struct_sync (shape (Shared.the_type (record { mir = named 7; lft = κs.1.1.1.1.1.1.1.0 }) (param 1 g.row.R) (param 2 g.row.G) (param 0 g.row.N) g.N.RoundName)) (
+    param_sync 2 _ (arg_sync _ no _ (tuple_sync _ _ (shr_sync _ _ (SharedCore.the_row (record { mir = named 7; lft = κs.1.1.1.1.1.1.1.0 }) (param 1 g.row.R) (param 2 g.row.G) (param 0 g.row.N) g.N.RoundName)
+    (recorded_sync (SharedCore.the_field (record { mir = named 7; lft = κs.1.1.1.1.1.1.1.0 }) (param 1 g.row.R) (param 2 g.row.G) (param 0 g.row.N) g.N.RoundName).row _ _
+    (SharedCore.the_type (record { mir = named 7; lft = κs.1.1.1.1.1.1.1.0 }) (param 1 g.row.R) (param 2 g.row.G) (param 0 g.row.N) g.N.RoundName).to_one
+    (struct_sync (shape (SharedCore.the_type (record { mir = named 7; lft = κs.1.1.1.1.1.1.1.0 }) (param 1 g.row.R) (param 2 g.row.G) (param 0 g.row.N) g.N.RoundName)) (
       shr_sync _ _ _ (param_sync 1 _ c.type_bounds.sync-R),
       (
         shr_sync _ _ _ (param_sync 2 _ c.type_bounds.sync-G),

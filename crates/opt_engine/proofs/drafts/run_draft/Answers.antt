@@ -1,7 +1,7 @@
 use Rattle.std.proofs.Common.{◌∙◌, sym, subst}
 use Rattle.twe_program.specs.WellFormed.{IsWellFormed}
-use Rattle.seg_exec.specs.declared.frame.Frame.{Frame}
-use Rattle.seg_exec.specs.Segment.{CarriesOut}
+use Rattle.seg_meaning.specs.declared.frame.Frame.{Frame}
+use Rattle.seg_meaning.specs.Segment.{CarriesOut}
 use Rattle.opt_engine.specs.inner.Noting.{TouchFollows}
 use Rattle.opt_engine.proofs.Drafting.{may_run, ran_draft}
 use Rattle.opt_engine.proofs.drafts.run_draft.Goals as goal

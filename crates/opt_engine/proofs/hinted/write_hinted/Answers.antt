@@ -1,6 +1,6 @@
 use Rattle.std.proofs.Common.{◌≡◌, ℤ, ◌∙◌, subst, w32, to_z, of_z}
 use Rattle.std.proofs.lemmas.Int.{to_z-of_z}
-use Rattle.seg_exec.specs.Access.{HasWritten}
+use Rattle.seg_meaning.specs.Access.{HasWritten}
 use Rattle.opt_engine.specs.inner.Hinting.{hint_ways}
 use Rattle.opt_engine.proofs.Hinting.{written_is}
 use Rattle.opt_engine.proofs.hinted.write_hinted.Goals as goal

@@ -1,8 +1,8 @@
 use Rattle.std.proofs.Common.{◌<◌, ◌≤◌, length, subst, arith}
 use Rattle.std.proofs.lemmas.Option.{slice_get_within}
 use Rattle.seg_journal.specs.declared.moves.Kind.TheVariants.{Admit}
-use Rattle.twe_machine.specs.declared.legal.Why.{Why}
-use Rattle.twe_machine.specs.Legal.{Forbids}
+use Rattle.machine_state.specs.declared.why.Why.{Why}
+use Rattle.machine_state.specs.Legal.{Forbids}
 use Rattle.opt_engine.proofs.judging.holder.Goals as goal
 
 -- a task that there is not waits for nothing

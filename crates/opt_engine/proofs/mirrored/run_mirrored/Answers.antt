@@ -1,10 +1,10 @@
 use Rattle.std.proofs.Common.{subst}
 use Rattle.twe_base.specs.Limits.{Bounds, IsWithin}
 use Rattle.twe_program.specs.WellFormed.{IsWellFormed}
-use Rattle.seg_exec.proofs.Segments.{if_ok_map}
-use Rattle.twe_machine.proofs.standing.ReachedStands.{reached_stands}
-use Rattle.twe_machine.proofs.standing.SettlesNext.{may_settle}
-use Rattle.twe_machine.proofs.tasks.OneSegment.{run_settled, run_settles}
+use Rattle.seg_meaning.proofs.Results.{if_ok_map}
+use Rattle.machine_state.proofs.standing.ReachedStands.{reached_stands}
+use Rattle.machine_state.proofs.standing.SettlesNext.{may_settle}
+use Rattle.machine_state.proofs.tasks.OneSegment.{run_settled, run_settles}
 use Rattle.opt_engine.proofs.mirrored.run_mirrored.Goals as goal
 
 -- there are as many values as cells

@@ -1,10 +1,10 @@
 use Rattle.std.proofs.Common.{ℤ, List, sym, ◌∙◌, subst}
 use Rattle.twe_program.specs.Program.{Program}
 use Rattle.twe_program.specs.WellFormed.{IsWellFormed}
-use Rattle.seg_exec.specs.Plain.{ListFollows, list_ways}
-use Rattle.seg_exec.specs.Segment.{CarriesOut, IsSegment, MayCarryOut}
-use Rattle.seg_exec.proofs.Accesses.{may_carry_out}
-use Rattle.seg_exec.proofs.PlainLists.{plain_segment}
+use Rattle.seg_meaning.specs.Plain.{ListFollows, list_ways}
+use Rattle.seg_meaning.specs.Segment.{CarriesOut, IsSegment, MayCarryOut}
+use Rattle.seg_meaning.proofs.Accesses.{may_carry_out}
+use Rattle.seg_meaning.proofs.PlainLists.{plain_segment}
 use Rattle.opt_engine.proofs.mirrored.run_on.Goals as goal
 
 -- the segment accesses cells of the program alone

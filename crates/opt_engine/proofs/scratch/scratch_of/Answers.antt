@@ -1,7 +1,7 @@
 use Rattle.std.proofs.Common.{◌∙◌, subst}
 use Rattle.twe_program.specs.WellFormed.{IsWellFormed}
-use Rattle.seg_exec.proofs.Segments.{if_ok_map}
-use Rattle.twe_machine.proofs.standing.ReachedStands.{reached_stands}
+use Rattle.seg_meaning.proofs.Results.{if_ok_map}
+use Rattle.machine_state.proofs.standing.ReachedStands.{reached_stands}
 use Rattle.opt_engine.proofs.scratch.scratch_of.Goals as goal
 
 -- a reached state has as many values as the program has cells

@@ -1,9 +1,9 @@
 use Rattle.std.proofs.Common.{◌<◌, ℤ, List, length, replicate, sym, ap, ◌∙◌, subst}
 use Rattle.std.specs.List.{All}
 use Rattle.twe_program.specs.WellFormed.{IsWellFormed}
-use Rattle.seg_exec.specs.Segment.{MayCarryOut}
-use Rattle.opt_engine.specs.declared.notes.Mark.{Mark}
-use Rattle.opt_engine.specs.declared.notes.Mark.TheVariants as marks
+use Rattle.seg_meaning.specs.Segment.{MayCarryOut}
+use Rattle.opt_engine.specs.declared.notes.CellMark.{CellMark}
+use Rattle.opt_engine.specs.declared.notes.CellMark.TheVariants as marks
 use Rattle.opt_engine.specs.declared.touch.CellValue.{CellValue}
 use Rattle.opt_engine.specs.declared.touching.Touching.{Touching}
 use Rattle.opt_engine.specs.Drafts.{IsDraftedOf}
@@ -23,7 +23,7 @@ again-scratch-requires-clause-reads g c =
     let left = left_so c.args.p.now c.args.start.task c.args.start.frame c.in_ok-after.after c.run_segment.new.frame c.into_touching.result c.new-hinted.result c.into_touching-2.result c.run_segment.new.cells
     c.in_ok-stop.stop c.args.scratch (subst IsWellFormed c.p.view_is c.p.invariant) c.requires.plain c.in_ok-after.ensures c.into_touching.ensures.fresh c.into_touching.ensures.cells c.requires.cells
     c.new-hinted.ensures c.in_ok-stop.ensures.segment c.into_touching-2.ensures c.in_ok-noted.ensures.whole in
-    subst (λ (x : List CellValue × List Mark). All (λ (r : CellValue). r.cell < length x.1) x.0)
+    subst (λ (x : List CellValue × List CellMark). All (λ (r : CellValue). r.cell < length x.1) x.0)
     (λ i. (sym (c.as_slice.ensures ∙ c.in_ok-noted.ensures.reads) i, sym c.in_ok-noted.ensures.marks i)) left.reads
 
 pub again-scratch-requires-clause-writes : goal.again-scratch-requires-clause-writes
@@ -31,7 +31,7 @@ again-scratch-requires-clause-writes g c =
     let left = left_so c.args.p.now c.args.start.task c.args.start.frame c.in_ok-after.after c.run_segment.new.frame c.into_touching.result c.new-hinted.result c.into_touching-2.result c.run_segment.new.cells
     c.in_ok-stop.stop c.args.scratch (subst IsWellFormed c.p.view_is c.p.invariant) c.requires.plain c.in_ok-after.ensures c.into_touching.ensures.fresh c.into_touching.ensures.cells c.requires.cells
     c.new-hinted.ensures c.in_ok-stop.ensures.segment c.into_touching-2.ensures c.in_ok-noted.ensures.whole in
-    subst (λ (x : List CellValue × List Mark). All (λ (w : CellValue). w.cell < length x.1) x.0)
+    subst (λ (x : List CellValue × List CellMark). All (λ (w : CellValue). w.cell < length x.1) x.0)
     (λ i. (sym (c.as_slice-2.ensures ∙ c.in_ok-noted.ensures.writes) i, sym c.in_ok-noted.ensures.marks i)) left.writes
 
 -- and nothing else has

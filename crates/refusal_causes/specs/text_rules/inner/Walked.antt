@@ -9,7 +9,7 @@ use Rattle.twe_lexer.specs.Places.{place_after}
 use Rattle.twe_lexer.specs.Tokens.{AreFirstLexemes, tokens_from}
 use Rattle.twe_parser.specs.inner.Reading.{concat}
 use Rattle.refusal_causes.specs.text_rules.Open.{open_after, open_of}
-use Rattle.refusal_causes.specs.declared.text_rules.walk.Walk.{Walk}
+use Rattle.refusal_causes.specs.declared.text_rules.walk.BracketWalk.{BracketWalk}
 
 -- the brackets that are open after one more lexeme, which is a token of this kind, or none
 abbrev pub open_if : List Place → Option TokenKind → Place → List Place
@@ -17,7 +17,7 @@ open_if places None place = places
 open_if places (Some kind) place = open_after places (record { kind = kind; place = place })
 
 -- the walk has come through these lexemes of the text, and the rest is left
-pub record HasWalked (text rest : List ℕ) (lexemes : List (List ℕ)) (walk : Walk) : Type 0 where
+pub record HasWalked (text rest : List ℕ) (lexemes : List (List ℕ)) (walk : BracketWalk) : Type 0 where
   pub cut : AreFirstLexemes lexemes text rest
   pub place_is : walk.place ≡ place_after (concat lexemes)
   pub open_is : walk.places ≡ open_of (tokens_from [] lexemes)
@@ -29,7 +29,7 @@ IsAhead text rest lexemes place =
     → (more : List (List ℕ)) × (others ≡ lexemes ++ more) × AreFirstLexemes more rest its
 
 -- a walk through the text that has not passed the place
-pub record IsOnItsWay (text rest : List ℕ) (walk : Walk) (place : Place) : Type 0 where
+pub record IsOnItsWay (text rest : List ℕ) (walk : BracketWalk) (place : Place) : Type 0 where
   pub lexemes : List (List ℕ)
   pub walked : HasWalked text rest lexemes walk
   pub ahead : IsAhead text rest lexemes place

@@ -3,7 +3,7 @@ use Rattle.twe_ast.specs.declared.item.Item.{Item}
 use Rattle.twe_ast.specs.declared.name.Name as written
 use Rattle.twe_program.specs.Program.{Program}
 use Rattle.twe_base.specs.declared.place.Place.{Place}
-use Rattle.name_notes.specs.Variables.{variables_at}
+use Rattle.explain_pages.specs.names.Variables.{variables_at}
 use Rattle.refusal_notes.specs.Explanation.{explanation_by, place_of_cause}
 use Rattle.refusal_notes.proofs.all_failures.caused_explanation.Goals as goal
 

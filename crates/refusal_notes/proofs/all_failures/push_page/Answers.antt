@@ -1,6 +1,6 @@
 use Rattle.std.proofs.Common.{◌≡◌, ◌++◌, ◌∙◌, ℕ, List, OnOk, ap, subst}
 use Rattle.twe_frontend.specs.declared.refusal.Refusal.{Refusal}
-use Rattle.place_notes.specs.declared.note.Explanation.{Explanation}
+use Rattle.explain_pages.specs.declared.places.note.Explanation.{Explanation}
 use Rattle.explain_pages.specs.Page.{refused_text}
 use Rattle.refusal_notes.specs.AllFailures.{failure_page}
 use Rattle.refusal_notes.specs.Answers.{caused_explanation}

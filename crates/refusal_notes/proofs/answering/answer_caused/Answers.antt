@@ -5,14 +5,14 @@ use Rattle.twe_program.specs.Program.{Program}
 use Rattle.twe_base.specs.declared.place.Place.{Place}
 use Rattle.twe_io.specs.declared.status.Status.TheVariants.{Refused}
 use Rattle.twe_io.specs.Answers.{on_out}
-use Rattle.place_notes.specs.declared.note.Explanation.{Explanation}
+use Rattle.explain_pages.specs.declared.places.note.Explanation.{Explanation}
 use Rattle.refusal_notes.specs.declared.mends.Mend.{Mend}
 use Rattle.refusal_notes.specs.Answers.{ExplainDue, caused_explanation, mends_of}
 use Rattle.refusal_notes.specs.Meetings.{IsMeetingTold}
 use Rattle.refusal_notes.specs.Mends.{AreTried, mends_for}
 use Rattle.refusal_notes.specs.Explanation.{explanation_by}
 use Rattle.explain_pages.specs.Page.{refused_text}
-use Rattle.name_notes.specs.Variables.{variables_at}
+use Rattle.explain_pages.specs.names.Variables.{variables_at}
 use Rattle.refusal_notes.specs.Explanation.{place_of_cause}
 use Rattle.refusal_notes.proofs.answering.answer_caused.Goals as goal
 

@@ -2,7 +2,7 @@ use Rattle.std.proofs.Common.{List, ◌∙◌, sym, ap, subst}
 use Rattle.twe_io.specs.declared.status.Status.TheVariants.{Refused}
 use Rattle.twe_io.specs.Answers.{on_out}
 use Rattle.refusal_notes.specs.Answers.{ExplainDue}
-use Rattle.place_notes.specs.declared.note.Explanation.{Explanation}
+use Rattle.explain_pages.specs.declared.places.note.Explanation.{Explanation}
 use Rattle.explain_pages.specs.Page.{refused_text}
 use Rattle.twe_base.specs.declared.place.Place.{Place}
 use Rattle.refusal_notes.specs.Unclosed.{unclosed_explanation}

@@ -3,8 +3,8 @@ use Rattle.twe_ast.specs.declared.item.Item.{Item}
 use Rattle.twe_io.specs.declared.status.Status.TheVariants.{Refused}
 use Rattle.twe_io.specs.Answers.{on_out}
 use Rattle.refusal_notes.specs.Answers.{ExplainDue}
-use Rattle.place_notes.specs.declared.note.Explanation.{Explanation}
-use Rattle.name_notes.specs.Named.{named_explanation}
+use Rattle.explain_pages.specs.declared.places.note.Explanation.{Explanation}
+use Rattle.explain_pages.specs.names.Named.{named_explanation}
 use Rattle.explain_pages.specs.Page.{refused_text}
 use Rattle.refusal_notes.proofs.answering.answer_named.Goals as goal
 

@@ -2,15 +2,15 @@ use Rattle.std.proofs.Common.{◌≡◌, ◌++◌, List, ℕ, ap, ◌∙◌}
 use Rattle.std.specs.Prelude.{codes}
 use Rattle.std.specs.Fmt.{decimal}
 use Rattle.std.proofs.lemmas.Result.{on_ok_weaker}
-use Rattle.place_notes.proofs.Appended.{then_two}
+use Rattle.explain_pages.proofs.Appended.{then_two}
 use Rattle.refusal_notes.proofs.early.push_count.Goals as goal
 
 -- one piece after the other
 pub returns : goal.returns
 returns c =
     let digits : c.as_bytes.result.now ≡ decimal c.args.count = c.as_bytes.ensures.value ∙ c.format.ensures.text in
-    on_ok_weaker c.push_limit.result
+    on_ok_weaker c.push_most.result
     (then_two c.args.text.now c.args.words.now (decimal c.args.count) (codes ", and at most " ++ decimal c.args.most)
-    c.push_all.new.self c.push_all-2.new.self c.push_limit.new.text c.in_ok-push_all.ensures.ok
+    c.push_all.new.self c.push_all-2.new.self c.push_most.new.text c.in_ok-push_all.ensures.ok
     (c.in_ok-push_all-2.ensures.ok ∙ ap (λ (t : List ℕ). c.push_all.new.self ++ t) digits))
-    c.push_limit.ensures
+    c.push_most.ensures

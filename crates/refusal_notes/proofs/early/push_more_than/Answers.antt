@@ -2,7 +2,7 @@ use Rattle.std.proofs.Common.{◌≡◌, ◌++◌, List, ℕ, ap, ◌∙◌}
 use Rattle.std.specs.Prelude.{codes}
 use Rattle.std.specs.Fmt.{decimal}
 use Rattle.std.proofs.lemmas.Result.{on_ok_weaker}
-use Rattle.place_notes.proofs.Appended.{then_one}
+use Rattle.explain_pages.proofs.Appended.{then_one}
 use Rattle.refusal_notes.proofs.early.push_more_than.Goals as goal
 
 -- one piece after the other

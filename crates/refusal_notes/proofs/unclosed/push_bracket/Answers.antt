@@ -1,5 +1,5 @@
 use Rattle.std.proofs.Common.{◌≡◌, ◌++◌, ℕ, List, [], ◌∷◌, OnOk, subst}
-use Rattle.place_notes.specs.Notes.{note_at}
+use Rattle.explain_pages.specs.places.Notes.{note_at}
 use Rattle.refusal_notes.proofs.unclosed.push_bracket.Goals as goal
 
 -- the note has its caption

@@ -2,7 +2,7 @@ use Rattle.std.proofs.Common.{subst, arith}
 use Rattle.twe_base.specs.Limits.{Bounds, IsWithin}
 use Rattle.twe_program.specs.Program.{Program}
 use Rattle.twe_program.specs.WellFormed.{IsWellFormed}
-use Rattle.twe_machine.specs.Runs.{Legal}
+use Rattle.machine_state.specs.Runs.{Legal}
 use Rattle.run_laws.specs.SafeRuns.{IsSafeRun}
 use Rattle.run_laws.proofs.SafeJournals.{on_ok, safe_result}
 use Rattle.run_laws.proofs.calls.replay_accepted.Goals as goal

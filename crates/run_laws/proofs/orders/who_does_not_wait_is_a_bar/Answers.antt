@@ -1,4 +1,4 @@
-use Rattle.twe_machine.proofs.standing.ReachedStands.{reached_stands}
+use Rattle.machine_state.proofs.standing.ReachedStands.{reached_stands}
 use Rattle.run_laws.proofs.orders.Deciding.{made_bar, made_yields}
 use Rattle.run_laws.proofs.orders.who_does_not_wait_is_a_bar.Goals as goal
 

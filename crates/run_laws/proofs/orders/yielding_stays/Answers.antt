@@ -1,4 +1,4 @@
-use Rattle.twe_machine.proofs.standing.ReachedStands.{reached_stands}
+use Rattle.machine_state.proofs.standing.ReachedStands.{reached_stands}
 use Rattle.run_laws.proofs.orders.Yielding.{yields_stays}
 use Rattle.run_laws.proofs.orders.yielding_stays.Goals as goal
 

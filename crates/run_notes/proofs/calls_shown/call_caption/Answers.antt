@@ -1,6 +1,6 @@
 use Rattle.std.proofs.Common.{◌++◌, ℕ, List, ap, ◌∙◌}
 use Rattle.std.specs.Prelude.{codes, slice_get}
-use Rattle.place_notes.proofs.Appended.{then_two}
+use Rattle.explain_pages.proofs.Appended.{then_two}
 use Rattle.run_texts.specs.TaskLabels.{decl_name}
 use Rattle.run_notes.specs.CallsShown.{times_words}
 use Rattle.run_notes.proofs.calls_shown.call_caption.Goals as goal

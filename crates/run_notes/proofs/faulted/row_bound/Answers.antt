@@ -1,6 +1,6 @@
 use Rattle.std.proofs.Common.{◌≡◌, ◌++◌, ℕ, List, ap, ◌∙◌}
 use Rattle.std.specs.Prelude.{codes, decimal}
-use Rattle.place_notes.proofs.Appended.{then_two}
+use Rattle.explain_pages.proofs.Appended.{then_two}
 use Rattle.run_notes.proofs.faulted.row_bound.Goals as goal
 
 -- the parts in their order

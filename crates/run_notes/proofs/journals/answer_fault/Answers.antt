@@ -1,15 +1,15 @@
 use Rattle.std.proofs.Common.{◌≡◌, List, sym, ap, ◌∙◌, subst}
 use Rattle.seg_journal.specs.declared.journal.Entry.{Entry}
-use Rattle.run_causes.specs.declared.making.Making.{Making}
-use Rattle.run_causes.specs.FaultSnapshots.{IsFaultSnapshot}
-use Rattle.run_causes.specs.Makings.{makings_of}
+use Rattle.run_facts.specs.declared.making.TaskMaking.{TaskMaking}
+use Rattle.run_facts.specs.FaultSnapshots.{IsFaultSnapshot}
+use Rattle.run_facts.specs.Makings.{makings_of}
 use Rattle.twe_ast.specs.declared.item.Item.{Item}
-use Rattle.twe_machine.specs.declared.state.State.{State}
-use Rattle.twe_machine.specs.Runs.{Legal, state_after}
+use Rattle.machine_state.specs.declared.state.State.{State}
+use Rattle.machine_state.specs.Runs.{Legal, state_after}
 use Rattle.twe_report.specs.Texts.{fault_text}
 use Rattle.twe_io.specs.declared.status.Status.TheVariants.{Fault}
 use Rattle.twe_io.specs.Answers.{on_out}
-use Rattle.place_notes.specs.declared.note.Explanation.{Explanation}
+use Rattle.explain_pages.specs.declared.places.note.Explanation.{Explanation}
 use Rattle.run_notes.specs.Faulted.{fault_explanation}
 use Rattle.run_notes.specs.Journals.{RunTold}
 use Rattle.run_notes.specs.VariablesShown.{items_of}
@@ -48,7 +48,7 @@ returns c =
     let said : c.in_ok-said.said ≡ fault_explanation text (items_of tree) p lim st (makings_of p lim journal) snapshot fault =
     c.in_ok-said.ensures
     ∙ (ap (λ (l : List Item). fault_explanation text l p lim st c.as_slice-known.result.now snapshot fault) c.items_of-items.ensures
-    ∙ ap (λ (l : List Making). fault_explanation text (items_of tree) p lim st l snapshot fault) made) in
+    ∙ ap (λ (l : List TaskMaking). fault_explanation text (items_of tree) p lim st l snapshot fault) made) in
     subst (RunTold wanted text p lim journal st)
     (sym (c.on_out.ensures ∙ ap (on_out Fault) (c.in_ok-page.ensures
     ∙ (ap (λ l. run_text wanted text l c.in_ok-said.said) c.in_ok-line.ensures

@@ -2,7 +2,7 @@ use Rattle.std.proofs.Common.{ℕ, List, Err, ap, ◌∙◌, subst}
 use Rattle.std.specs.Prelude.{unwrap_or}
 use Rattle.seg_journal.specs.declared.moves.Move.{Move}
 use Rattle.twe_base.specs.Limits.{Bounds}
-use Rattle.twe_machine.specs.Replays.{IsFirstIllegal}
+use Rattle.machine_state.specs.Replays.{IsFirstIllegal}
 use Rattle.text_answers.specs.Answers.{default_limits, limits_with}
 use Rattle.text_answers.proofs.Replays.{illegal_within}
 use Rattle.run_notes.proofs.FirstIllegal.{counted_from}

@@ -19,7 +19,7 @@ returns c =
     let why = c.args.why in
     let limits = limits_with found.head default_limits in
     let line : c.in_ok-line.line ≡ not_legal_text (length (head_lines found.head) + n) =
-    c.in_ok-line.ensures ∙ ap not_legal_text c.journal_line.ensures in
+    c.in_ok-line.ensures ∙ ap not_legal_text c.line_of.ensures in
     subst (JournalTold wanted text p c.args.journal.now) (sym c.on_out.ensures)
     (JournalTold.not_legal found.head found.moves n why c.in_ok-page.page c.requires.spelled
     (subst (λ (l : List ℕ). IllegalTold wanted text p limits found.moves n why l c.in_ok-page.page) line

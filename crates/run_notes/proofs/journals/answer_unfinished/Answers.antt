@@ -1,13 +1,13 @@
 use Rattle.std.proofs.Common.{◌≡◌, List, sym, ap, ◌∙◌, subst}
 use Rattle.seg_journal.specs.declared.journal.Entry.{Entry}
 use Rattle.seg_journal.specs.declared.moves.Move.{Move}
-use Rattle.run_causes.specs.declared.making.Making.{Making}
-use Rattle.run_causes.specs.Makings.{makings_of}
-use Rattle.twe_machine.specs.Runs.{Legal}
+use Rattle.run_facts.specs.declared.making.TaskMaking.{TaskMaking}
+use Rattle.run_facts.specs.Makings.{makings_of}
+use Rattle.machine_state.specs.Runs.{Legal}
 use Rattle.twe_report.specs.Texts.{unfinished_text}
 use Rattle.twe_io.specs.declared.status.Status.TheVariants.{Unfinished}
 use Rattle.twe_io.specs.Answers.{on_out}
-use Rattle.place_notes.specs.declared.note.Explanation.{Explanation}
+use Rattle.explain_pages.specs.declared.places.note.Explanation.{Explanation}
 use Rattle.run_notes.specs.Journals.{RunTold}
 use Rattle.run_notes.specs.NextShown.{next_explanation}
 use Rattle.explain_pages.specs.RunPage.{run_text}
@@ -34,7 +34,7 @@ returns c =
     c.as_slice-2.ensures ∙ (c.in_ok-makings.ensures ∙ ap (λ (l : List Entry). makings_of p lim l) c.as_slice.ensures) in
     let said : c.in_ok-said.said ≡ next_explanation p st (makings_of p lim c.args.journal.now) moves =
     c.in_ok-said.ensures
-    ∙ (ap (λ (l : List Making). next_explanation p st l c.as_slice-3.result.now) made
+    ∙ (ap (λ (l : List TaskMaking). next_explanation p st l c.as_slice-3.result.now) made
     ∙ ap (λ (l : List Move). next_explanation p st (makings_of p lim c.args.journal.now) l) c.as_slice-3.ensures) in
     subst (RunTold wanted text p lim c.args.journal.now st)
     (sym (c.on_out.ensures ∙ ap (on_out Unfinished) (c.in_ok-page.ensures

@@ -1,6 +1,6 @@
 use Rattle.std.proofs.Common.{sym, subst}
-use Rattle.twe_machine.specs.Runs.{IsOutcome}
-use Rattle.twe_machine.specs.declared.ending.Outcome.{Outcome}
+use Rattle.machine_state.specs.Runs.{IsOutcome}
+use Rattle.machine_state.specs.declared.ending.Outcome.{Outcome}
 use Rattle.run_notes.specs.Journals.{RunTold}
 use Rattle.run_notes.proofs.journals.tell_run.Goals as goal
 

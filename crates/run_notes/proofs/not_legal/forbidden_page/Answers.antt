@@ -1,9 +1,9 @@
 use Rattle.std.proofs.Common.{◌≡◌, List, sym, ap, ◌∙◌, subst}
 use Rattle.seg_journal.specs.declared.journal.Entry.{Entry}
-use Rattle.run_causes.specs.declared.making.Making.{Making}
-use Rattle.run_causes.specs.Makings.{makings_of}
-use Rattle.twe_machine.specs.Runs.{Legal}
-use Rattle.place_notes.specs.declared.note.Explanation.{Explanation}
+use Rattle.run_facts.specs.declared.making.TaskMaking.{TaskMaking}
+use Rattle.run_facts.specs.Makings.{makings_of}
+use Rattle.machine_state.specs.Runs.{Legal}
+use Rattle.explain_pages.specs.declared.places.note.Explanation.{Explanation}
 use Rattle.run_notes.specs.NotLegal.{forbidden_explanation}
 use Rattle.explain_pages.specs.RunPage.{run_text}
 use Rattle.run_notes.proofs.not_legal.forbidden_page.Goals as goal
@@ -21,5 +21,5 @@ returns c =
     let made : c.as_slice-2.result.now ≡ makings_of p lim c.args.journal.now =
     c.as_slice-2.ensures ∙ (c.in_ok-makings.ensures ∙ ap (λ (l : List Entry). makings_of p lim l) c.as_slice.ensures) in
     let said : c.in_ok-said.said ≡ forbidden_explanation p st (makings_of p lim c.args.journal.now) c.args.task c.args.why =
-    c.in_ok-said.ensures ∙ ap (λ (l : List Making). forbidden_explanation p st l c.args.task c.args.why) made in
+    c.in_ok-said.ensures ∙ ap (λ (l : List TaskMaking). forbidden_explanation p st l c.args.task c.args.why) made in
     c.in_ok-page.ensures ∙ ap (λ (e : Explanation). run_text c.args.wanted.now c.args.text.now c.args.answer e) said

@@ -1,11 +1,11 @@
 use Rattle.std.proofs.Common.{◌≡◌, ◌∙◌, ℕ, List, Err, sym, ap, subst}
 use Rattle.seg_journal.specs.declared.journal.Entry.{Entry}
 use Rattle.seg_journal.specs.declared.moves.Move.{Move}
-use Rattle.twe_machine.specs.Replays.{AreLegal}
-use Rattle.twe_machine.specs.Runs.{state_after}
-use Rattle.twe_machine.specs.declared.state.State.{State}
-use Rattle.twe_machine.proofs.replays.Replayed.{never_both}
-use Rattle.run_causes.specs.Makings.{makings_of}
+use Rattle.machine_state.specs.Replays.{AreLegal}
+use Rattle.machine_state.specs.Runs.{state_after}
+use Rattle.machine_state.specs.declared.state.State.{State}
+use Rattle.machine_state.proofs.replays.Replayed.{never_both}
+use Rattle.run_facts.specs.Makings.{makings_of}
 use Rattle.run_notes.specs.NotLegal.{forbidden_explanation}
 use Rattle.explain_pages.specs.RunPage.{run_text}
 use Rattle.run_notes.proofs.FirstIllegal.{before_legal, comes_next, same_before}

@@ -1,5 +1,5 @@
 use Rattle.std.proofs.Common.{refl}
-use Rattle.twe_machine.specs.Runs.{state_after}
+use Rattle.machine_state.specs.Runs.{state_after}
 use Rattle.run_theorem.proofs.OneStatus.{one_status}
 use Rattle.run_theorem.proofs.answers.deterministic_mains_have_one_status.Goals as goal
 

@@ -1,7 +1,7 @@
 use Rattle.std.proofs.Common.{refl}
-use Rattle.twe_machine.specs.Runs.{IsReached, state_after}
-use Rattle.twe_machine.proofs.counts.AllJournals.{journal_counts}
-use Rattle.twe_machine.proofs.standing.ReachedStands.{reached_stands}
+use Rattle.machine_state.specs.Runs.{IsReached, state_after}
+use Rattle.machine_state.proofs.counts.AllJournals.{journal_counts}
+use Rattle.machine_state.proofs.standing.ReachedStands.{reached_stands}
 use Rattle.run_theorem.proofs.Enablings.{tasks_at_most_once, tasks_once}
 use Rattle.run_theorem.proofs.journals.each_task_is_enabled_once.Goals as goal
 

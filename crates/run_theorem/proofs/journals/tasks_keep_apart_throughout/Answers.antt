@@ -1,5 +1,5 @@
 use Rattle.std.proofs.Common.{take, refl}
-use Rattle.twe_machine.specs.Runs.{state_after}
+use Rattle.machine_state.specs.Runs.{state_after}
 use Rattle.run_theorem.proofs.journals.tasks_keep_apart_throughout.Goals as goal
 
 pub returns-clause-declared : goal.returns-clause-declared

@@ -1,6 +1,6 @@
 use Rattle.std.proofs.Common.{◌<◌, ◌+◌, ap, sym, ◌∙◌, arith}
 use Rattle.std.specs.Prelude.{option_copied}
-use Rattle.seg_exec.proofs.CellNumbers.{number_below}
+use Rattle.seg_meaning.proofs.CellNumbers.{number_below}
 use Rattle.seg_exec.proofs.elements.element_number.Goals as goal
 
 pub overflow_add-result : goal.overflow_add-result

@@ -1,6 +1,6 @@
 use Rattle.std.proofs.Common.{◌*◌, ◌≡◌, ap}
 use Rattle.twe_program.specs.Program.{size_of}
-use Rattle.seg_exec.proofs.CellNumbers.{grid_within}
+use Rattle.seg_meaning.proofs.CellNumbers.{grid_within}
 use Rattle.seg_exec.proofs.elements.in_grid.Goals as goal
 
 pub returns-in-Some-Some-clause-within : goal.returns-in-Some-Some-clause-within

@@ -1,10 +1,11 @@
 use Rattle.std.proofs.Common.{◌≡◌, Some, sym, ap, ◌∙◌}
 use Rattle.std.specs.Prelude.{option_map}
-use Rattle.seg_exec.specs.Access.{ways_of}
+use Rattle.seg_meaning.specs.Access.{ways_of}
 use Rattle.seg_exec.specs.inner.steps.Unfolded.{config_at}
 use Rattle.seg_exec.specs.inner.steps.Views.{config_of}
-use Rattle.seg_exec.proofs.Rooms.{so_has_room}
-use Rattle.seg_exec.proofs.Segments.{carries_taken, if_ok_map, may_run, ran}
+use Rattle.seg_exec.proofs.FinishedRooms.{so_has_room}
+use Rattle.seg_meaning.proofs.Results.{if_ok_map}
+use Rattle.seg_exec.proofs.Segments.{carries_taken, may_run, ran}
 use Rattle.seg_exec.proofs.segment.run_segment.Goals as goal
 
 pub returns-in_ok-ending-in-Some-clause-segment : goal.returns-in_ok-ending-in-Some-clause-segment

@@ -1,9 +1,9 @@
 use Rattle.std.proofs.Common.{subst}
 use Rattle.twe_program.specs.Program.{Program}
 use Rattle.twe_program.specs.WellFormed.{IsWellFormed}
-use Rattle.seg_exec.proofs.Accesses.{may_carry_out}
-use Rattle.seg_exec.proofs.PlainLists.{plain_length, plain_segment}
-use Rattle.seg_exec.proofs.Segments.{if_ok_map}
+use Rattle.seg_meaning.proofs.Accesses.{may_carry_out}
+use Rattle.seg_meaning.proofs.PlainLists.{plain_length, plain_segment}
+use Rattle.seg_meaning.proofs.Results.{if_ok_map}
 use Rattle.seg_exec.proofs.segment.run_segment_over_list.Goals as goal
 
 pub run_segment-requires : goal.run_segment-requires

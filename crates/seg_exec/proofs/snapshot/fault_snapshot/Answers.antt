@@ -2,14 +2,15 @@ use Rattle.std.proofs.Common.{◌≡◌, ℤ, List, Some, length, sym, ap, ◌�
 use Rattle.std.specs.Prelude.{option_map}
 use Rattle.twe_program.specs.Program.{Program}
 use Rattle.twe_program.specs.WellFormed.{IsWellFormed}
-use Rattle.seg_exec.specs.Plain.{list_ways}
+use Rattle.seg_meaning.specs.Plain.{list_ways}
 use Rattle.seg_exec.specs.Snapshots.{snapshot_of}
-use Rattle.seg_exec.specs.Segment.{flow_of}
+use Rattle.seg_meaning.specs.Segment.{flow_of}
 use Rattle.seg_exec.specs.inner.steps.Unfolded.{config_at}
 use Rattle.seg_exec.specs.inner.steps.Views.{config_of}
-use Rattle.seg_exec.proofs.Accesses.{may_carry_out}
+use Rattle.seg_meaning.proofs.Accesses.{may_carry_out}
 use Rattle.seg_exec.proofs.SnapshotsMet.{snapshot_met}
-use Rattle.seg_exec.proofs.Segments.{if_ok_map, may_run}
+use Rattle.seg_meaning.proofs.Results.{if_ok_map}
+use Rattle.seg_exec.proofs.Segments.{may_run}
 use Rattle.seg_exec.proofs.snapshot.fault_snapshot.Goals as goal
 
 pub run-requires : goal.run-requires

@@ -1,6 +1,6 @@
 -- The active calls, as the continuation frames of the evaluator have them.
 use Rattle.std.specs.Prelude.{List, [], ◌∷◌, Option, None, Some}
-use Rattle.seg_exec.specs.declared.active.ActiveCall.{ActiveCall}
+use Rattle.seg_meaning.specs.declared.active.ActiveCall.{ActiveCall}
 use Rattle.seg_exec.specs.declared.steps.continuation.Continuation.{Continuation}
 use Rattle.seg_exec.specs.declared.steps.continuation.Continuation.TheVariants.{Leave}
 

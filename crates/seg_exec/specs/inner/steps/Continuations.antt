@@ -4,11 +4,11 @@ use Rattle.twe_base.specs.declared.place.Place.{Place}
 use Rattle.twe_ast.specs.declared.expr.BinOp.{BinOp}
 use Rattle.twe_program.specs.Expression.{Expression, Arguments}
 use Rattle.twe_program.specs.Statement.{Statement, Statements, Arms}
-use Rattle.seg_exec.specs.declared.active.ActiveCall.{ActiveCall}
-use Rattle.seg_exec.specs.declared.frame.Position.{Position}
-use Rattle.seg_exec.specs.declared.operation.Operation.{Operation}
+use Rattle.seg_meaning.specs.declared.active.ActiveCall.{ActiveCall}
+use Rattle.seg_meaning.specs.declared.frame.Position.{Position}
+use Rattle.seg_meaning.specs.declared.operation.Operation.{Operation}
 use Rattle.seg_exec.specs.declared.steps.continuation.Goal.{Goal}
-use Rattle.seg_exec.specs.Access.{value_in}
+use Rattle.seg_meaning.specs.Access.{value_in}
 use Rattle.twe_base.specs.Stacks as stacks
 use Rattle.twe_base.specs.Stacks.{below}
 

@@ -1,7 +1,7 @@
 -- How a run of the evaluator ends at a task operation.
 use Rattle.std.specs.Prelude.{List}
-use Rattle.seg_exec.specs.declared.frame.Position.{Position}
-use Rattle.seg_exec.specs.declared.operation.Operation.{Operation}
+use Rattle.seg_meaning.specs.declared.frame.Position.{Position}
+use Rattle.seg_meaning.specs.declared.operation.Operation.{Operation}
 use Rattle.seg_exec.specs.declared.steps.request.Ending.{Ending}
 use Rattle.seg_exec.specs.declared.steps.request.Ending.TheVariants.{Suspended}
 

@@ -6,8 +6,8 @@ use Rattle.seg_exec.specs.declared.steps.request.Request.TheVariants.{Nothing, R
 use Rattle.seg_exec.specs.declared.steps.request.Ending.{Ending}
 use Rattle.seg_exec.specs.declared.steps.continuation.Continuation.{Continuation as Held}
 use Rattle.seg_exec.specs.declared.steps.machine.Machine.{Machine}
-use Rattle.seg_exec.specs.Access.{Access, Reads, Writes, Prints, Agrees, Follows, HasRead, HasWritten, MayAll, MaySame, Ways, after, printed, value_in}
-use Rattle.seg_exec.specs.Store.{Store}
+use Rattle.seg_meaning.specs.Access.{Access, Reads, Writes, Prints, Agrees, Follows, HasRead, HasWritten, MayAll, MaySame, Ways, after, printed, value_in}
+use Rattle.seg_meaning.specs.Store.{Store}
 use Rattle.seg_exec.specs.inner.steps.Continuations.{Config, with_operand}
 use Rattle.seg_exec.specs.inner.steps.Steps.{step_of}
 use Rattle.seg_exec.specs.inner.steps.Runs.{Moment, Over, Comes, run, store_of}

@@ -4,8 +4,8 @@ use Rattle.twe_program.specs.Program.{Program}
 use Rattle.seg_exec.specs.declared.steps.request.Request.{Request}
 use Rattle.seg_exec.specs.declared.steps.request.Request.TheVariants.{Nothing, Read, Write, Print, End}
 use Rattle.seg_exec.specs.declared.steps.request.Ending.{Ending}
-use Rattle.seg_exec.specs.Access.{Access, Reads, Writes, Prints, value_in}
-use Rattle.seg_exec.specs.Store.{Store}
+use Rattle.seg_meaning.specs.Access.{Access, Reads, Writes, Prints, value_in}
+use Rattle.seg_meaning.specs.Store.{Store}
 use Rattle.seg_exec.specs.inner.steps.Continuations.{Continuation, Config, with_operand}
 use Rattle.seg_exec.specs.inner.steps.Steps.{Step, step_of}
 

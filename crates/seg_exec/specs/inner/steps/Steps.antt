@@ -8,20 +8,20 @@ use Rattle.twe_program.specs.Program.{Program}
 use Rattle.twe_program.specs.Expression.{Expression, Literal, Truth, Variable, CellValue, ArrayElement, GridElement, CallValue, Negative, Negation, Binary, Arguments, argument}
 use Rattle.twe_program.specs.Expression as args
 use Rattle.twe_program.specs.Statement.{Statement, Block, Let, Set, SetCell, SetArray, SetGrid, If, While, Return, Print, Call, Make, Wait, Statements, no_more, statement, Arms, arm, otherwise, no_else}
-use Rattle.seg_exec.specs.declared.active.ActiveCall.{ActiveCall}
-use Rattle.seg_exec.specs.declared.fault.FaultCause.{FaultCause}
-use Rattle.seg_exec.specs.declared.fault.FaultCause.TheVariants.{DivZero, Index, GridIndex, Fuel, Depth}
-use Rattle.seg_exec.specs.declared.frame.Position.{Position}
-use Rattle.seg_exec.specs.declared.operation.Operation.{Operation}
-use Rattle.seg_exec.specs.declared.operation.Operation.TheVariants as operations
+use Rattle.seg_meaning.specs.declared.active.ActiveCall.{ActiveCall}
+use Rattle.seg_meaning.specs.declared.fault.FaultCause.{FaultCause}
+use Rattle.seg_meaning.specs.declared.fault.FaultCause.TheVariants.{DivZero, Index, GridIndex, Fuel, Depth}
+use Rattle.seg_meaning.specs.declared.frame.Position.{Position}
+use Rattle.seg_meaning.specs.declared.operation.Operation.{Operation}
+use Rattle.seg_meaning.specs.declared.operation.Operation.TheVariants as operations
 use Rattle.seg_exec.specs.declared.steps.continuation.Goal.{Goal}
 use Rattle.seg_exec.specs.declared.steps.continuation.Goal.TheVariants as goals
 use Rattle.seg_exec.specs.declared.steps.request.Request.{Request}
 use Rattle.seg_exec.specs.declared.steps.request.Request.TheVariants as requests
 use Rattle.seg_exec.specs.declared.steps.request.Ending.TheVariants as endings
-use Rattle.seg_exec.specs.Arithmetic.{number_of, is_true, operated, decided, negative, negation}
-use Rattle.seg_exec.specs.Cells.{cell_number, element_number, grid_element_number}
-use Rattle.seg_exec.specs.Meaning.{body_of, vars_at_start}
+use Rattle.seg_meaning.specs.Arithmetic.{number_of, is_true, operated, decided, negative, negation}
+use Rattle.seg_meaning.specs.Cells.{cell_number, element_number, grid_element_number}
+use Rattle.seg_meaning.specs.Meaning.{body_of, vars_at_start}
 use Rattle.twe_base.specs.Stacks.{below}
 use Rattle.seg_exec.specs.inner.steps.Endings.{suspended_at}
 use Rattle.seg_exec.specs.inner.steps.Continuations.{Continuation, Evaluate, Execute, Rest, Choose, Chosen, Turn, Gather, Take, Negate, Invert, Right, Apply, ReadElement, ReadGridElement, GiveVar, GiveCell, GiveElement, GiveGridElement, PrintValue, Discard, Unwind, Suspend, Leave, Config, top, to_do, with_operand, without_operand, var_value}

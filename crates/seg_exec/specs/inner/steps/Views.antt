@@ -3,7 +3,7 @@ use Rattle.std.specs.Prelude.{ℕ, ℤ, List, [], ◌∷◌, drop, take}
 use Rattle.twe_program.specs.Expression.{arguments_of}
 use Rattle.twe_program.specs.Statement.{statements_of}
 use Rattle.twe_program.specs.inner.StatementView.{arms_of}
-use Rattle.seg_exec.specs.declared.active.ActiveCall.{ActiveCall}
+use Rattle.seg_meaning.specs.declared.active.ActiveCall.{ActiveCall}
 use Rattle.seg_exec.specs.declared.steps.continuation.Continuation.{Continuation as Held}
 use Rattle.seg_exec.specs.declared.steps.continuation.Continuation.TheVariants as held
 use Rattle.seg_exec.specs.declared.steps.continuation.Recovered.{Recovered}

@@ -4,13 +4,13 @@ use Rattle.twe_base.specs.declared.place.Place.{Place}
 use Rattle.twe_program.specs.Program.{Program}
 use Rattle.twe_program.specs.Expression.{Expression}
 use Rattle.twe_program.specs.Statement.{Statement}
-use Rattle.seg_exec.specs.declared.active.ActiveCall.{ActiveCall}
-use Rattle.seg_exec.specs.declared.fault.FaultCause.{FaultCause}
+use Rattle.seg_meaning.specs.declared.active.ActiveCall.{ActiveCall}
+use Rattle.seg_meaning.specs.declared.fault.FaultCause.{FaultCause}
 use Rattle.seg_exec.specs.declared.strides.assign.Carried.{Carried}
 use Rattle.seg_exec.specs.declared.strides.assign.Carried.TheVariants.{Done, Faulted, Left}
 use Rattle.seg_exec.specs.declared.strides.assign.Target.{Target}
 use Rattle.seg_exec.specs.declared.strides.assign.Target.TheVariants.{Var, Cell}
-use Rattle.seg_exec.specs.Access.{HasWritten, Ways}
+use Rattle.seg_meaning.specs.Access.{HasWritten, Ways}
 use Rattle.seg_exec.specs.inner.steps.Continuations.{Continuation, Evaluate, Execute, GiveVar, GiveCell, GiveElement}
 use Rattle.seg_exec.specs.inner.steps.Steps.{is_return}
 use Rattle.seg_exec.specs.inner.strides.Strides.{Ends, Goes, MayGo, fault_ending, stand}

@@ -2,8 +2,8 @@
 use Rattle.std.specs.Prelude.{ℤ, List, Option, None, Some, slice_get}
 use Rattle.twe_ast.specs.declared.expr.BinOp.{BinOp}
 use Rattle.twe_program.specs.Expression.{Expression, Literal, Variable, Binary}
-use Rattle.seg_exec.specs.Access.{value_in}
-use Rattle.seg_exec.specs.Arithmetic.{is_true, operated, decided}
+use Rattle.seg_meaning.specs.Access.{value_in}
+use Rattle.seg_meaning.specs.Arithmetic.{is_true, operated, decided}
 
 -- the value of a literal or a variable; none of another expression
 abbrev pub leaf_value : Expression → List ℤ → Option ℤ

@@ -11,7 +11,7 @@ use Rattle.seg_exec.specs.declared.steps.continuation.Goal.{Goal}
 use Rattle.seg_exec.specs.declared.steps.continuation.OpenBlock.{OpenBlock}
 use Rattle.seg_exec.specs.declared.strides.onward.Onward.{Onward}
 use Rattle.seg_exec.specs.declared.strides.onward.Onward.TheVariants.{Below, Enter, End}
-use Rattle.seg_exec.specs.Access.{Access, Ways, ways_of}
+use Rattle.seg_meaning.specs.Access.{Access, Ways, ways_of}
 use Rattle.seg_exec.specs.inner.steps.Continuations.{Config, Continuation, Gather, Rest, to_do}
 use Rattle.seg_exec.specs.inner.steps.Reached.{Served, Standing, standing, standing_before}
 use Rattle.seg_exec.specs.inner.steps.Steps.{Step, on}

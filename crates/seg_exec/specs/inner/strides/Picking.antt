@@ -4,10 +4,10 @@ use Rattle.twe_program.specs.declared.stmt.Arm.{Arm}
 use Rattle.twe_program.specs.Program.{Program}
 use Rattle.twe_program.specs.Statement.{Statements}
 use Rattle.twe_program.specs.inner.StatementView.{arms_of}
-use Rattle.seg_exec.specs.declared.active.ActiveCall.{ActiveCall}
+use Rattle.seg_meaning.specs.declared.active.ActiveCall.{ActiveCall}
 use Rattle.seg_exec.specs.declared.strides.pick.Picked.{Picked}
 use Rattle.seg_exec.specs.declared.strides.pick.Picked.TheVariants.{Faulted, Nothing, Body, Left}
-use Rattle.seg_exec.specs.Access.{Ways}
+use Rattle.seg_meaning.specs.Access.{Ways}
 use Rattle.seg_exec.specs.inner.steps.Continuations.{Continuation, Choose, Rest}
 use Rattle.seg_exec.specs.inner.strides.Strides.{Ends, Goes, Nears, fault_ending, stand}
 

@@ -3,14 +3,14 @@ use Rattle.std.specs.Prelude.{◌≡◌, ◌<◌, ◌≤◌, ℕ, ℤ, List, ◌
 use Rattle.twe_base.specs.declared.place.Place.{Place}
 use Rattle.twe_program.specs.Program.{Program}
 use Rattle.twe_program.specs.Expression.{Expression}
-use Rattle.seg_exec.specs.declared.active.ActiveCall.{ActiveCall}
-use Rattle.seg_exec.specs.declared.fault.FaultCause.{FaultCause}
-use Rattle.seg_exec.specs.declared.fault.FaultCause.TheVariants.{DivZero}
+use Rattle.seg_meaning.specs.declared.active.ActiveCall.{ActiveCall}
+use Rattle.seg_meaning.specs.declared.fault.FaultCause.{FaultCause}
+use Rattle.seg_meaning.specs.declared.fault.FaultCause.TheVariants.{DivZero}
 use Rattle.seg_exec.specs.declared.steps.machine.Machine.{Machine}
 use Rattle.seg_exec.specs.declared.steps.request.Ending.{Ending}
 use Rattle.seg_exec.specs.declared.steps.request.Ending.TheVariants.{Faulted}
 use Rattle.seg_exec.specs.declared.strides.value.Fault.{Fault}
-use Rattle.seg_exec.specs.Access.{Access, HasRead, Ways, ways_of}
+use Rattle.seg_meaning.specs.Access.{Access, HasRead, Ways, ways_of}
 use Rattle.seg_exec.specs.inner.steps.Continuations.{Continuation, Evaluate, to_do, with_operand}
 use Rattle.seg_exec.specs.inner.steps.Reached.{Finishes, MayGoOn, Reaches, Standing, standing}
 use Rattle.seg_exec.specs.inner.steps.Sizes.{size_of_work}

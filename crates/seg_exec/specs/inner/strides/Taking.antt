@@ -4,9 +4,9 @@ use Rattle.twe_program.specs.Expression.{Arguments, Expression, argument, argume
 use Rattle.twe_program.specs.Program.{Program}
 use Rattle.seg_exec.specs.declared.steps.continuation.Goal.{Goal}
 use Rattle.seg_exec.specs.declared.steps.machine.Machine.{Machine}
-use Rattle.seg_exec.specs.declared.strides.gather.Taken.{Taken}
-use Rattle.seg_exec.specs.declared.strides.gather.Taken.TheVariants.{All, Faulted, Left}
-use Rattle.seg_exec.specs.Access.{Ways}
+use Rattle.seg_exec.specs.declared.strides.arguments.Evaluated.{Evaluated}
+use Rattle.seg_exec.specs.declared.strides.arguments.Evaluated.TheVariants.{All, Faulted, Left}
+use Rattle.seg_meaning.specs.Access.{Ways}
 use Rattle.seg_exec.specs.inner.steps.Reached.{standing}
 use Rattle.seg_exec.specs.inner.strides.Moving.{gathering_from}
 use Rattle.seg_exec.specs.inner.strides.Strides.{Ends, MayGo, Nears, fault_ending}
@@ -25,7 +25,7 @@ TakesUpTo p ways count args old cells left new cells' =
     → Nears p ways (gathering_from count args goal old cells prints) (gathering_from count left goal new cells' prints)
 
 -- all arguments have values, or those before one that calls a method, or one meets a fault, whatever the goal is
-abbrev pub Takes : {C : Type 0} → Program → Ways C → ℕ → List Expression → Machine → C → Taken → Machine → C → Type 0
+abbrev pub Takes : {C : Type 0} → Program → Ways C → ℕ → List Expression → Machine → C → Evaluated → Machine → C → Type 0
 Takes p ways count args old cells All new cells' =
     (count ≤ length new.vars.active) × TakesUpTo p ways count (arguments_of args) old cells no_more new cells'
 Takes p ways count args old cells (Left first others) new cells' =

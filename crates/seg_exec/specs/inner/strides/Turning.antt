@@ -6,7 +6,7 @@ use Rattle.twe_program.specs.Expression.{Expression}
 use Rattle.twe_program.specs.Statement.{Statement, Statements}
 use Rattle.seg_exec.specs.declared.steps.machine.Machine.{Machine}
 use Rattle.seg_exec.specs.declared.strides.onward.Onward.{Onward}
-use Rattle.seg_exec.specs.Access.{Ways}
+use Rattle.seg_meaning.specs.Access.{Ways}
 use Rattle.seg_exec.specs.inner.steps.Continuations.{Config, Evaluate, Turn, to_do}
 use Rattle.seg_exec.specs.inner.steps.Reached.{Standing, standing}
 use Rattle.seg_exec.specs.inner.steps.Steps.{executed, on}

@@ -1,8 +1,8 @@
 use Rattle.std.proofs.Common.{◌≡◌, subst, rules}
-use Rattle.seg_exec.specs.Segment.{segment}
+use Rattle.seg_meaning.specs.Segment.{segment}
 use Rattle.seq_elide.specs.declared.turn.Turn.{Turn}
 use Rattle.seq_elide.specs.Answers.{elided_with}
-use Rattle.seq_elide.specs.Elision.{elided}
+use Rattle.determinism_laws.specs.elision.Elision.{elided}
 use Rattle.seq_elide.specs.inner.Turns.{IsTurn, goes_to, ended, turn_after}
 use Rattle.seq_elide.proofs.Whole.{fails_alike, goes_on_less, has_ended, has_failed, has_gone_on}
 use Rattle.seq_elide.proofs.execution.elide.Goals as goal

@@ -1,6 +1,6 @@
 use Rattle.std.proofs.Common.{length, ap, ◌∙◌, List}
 use Rattle.seg_journal.specs.declared.journal.Entry.{Entry}
-use Rattle.twe_machine.specs.Runs.{counted}
+use Rattle.machine_state.specs.Runs.{counted}
 use Rattle.span_profile.proofs.CountedParts.{counts_part, counts_whole, first_of_part, part_length}
 use Rattle.span_profile.proofs.counting.counted_run.Goals as goal
 

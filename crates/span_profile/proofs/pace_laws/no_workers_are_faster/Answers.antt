@@ -1,4 +1,4 @@
-use Rattle.twe_machine.specs.Runs.{counted}
+use Rattle.machine_state.specs.Runs.{counted}
 use Rattle.span_profile.specs.LeadsTo.{LeadsTo}
 use Rattle.span_profile.specs.Strands.{strands, weight_of}
 use Rattle.span_profile.proofs.Speed.{least}

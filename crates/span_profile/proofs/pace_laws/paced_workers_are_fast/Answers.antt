@@ -1,7 +1,7 @@
 use Rattle.std.proofs.Common.{length}
-use Rattle.twe_machine.specs.Runs.{counted}
+use Rattle.machine_state.specs.Runs.{counted}
 use Rattle.span_profile.specs.Strands.{strands}
-use Rattle.span_profile.proofs.PacedTimes.{timetable}
+use Rattle.schedules.proofs.PacedTimes.{timetable}
 use Rattle.span_profile.specs.Speed.{EntryLeads, entry_weight}
 use Rattle.span_profile.proofs.PacedRuns.{run_least, run_short}
 use Rattle.span_profile.proofs.pace_laws.paced_workers_are_fast.Goals as goal

@@ -2,7 +2,7 @@ use Rattle.std.proofs.Common.{◌+◌, ◌++◌, ℕ, List, [], ◌∷◌, Err, 
 use Rattle.std.proofs.lemmas.List.{take_all, take_more}
 use Rattle.seg_journal.specs.declared.moves.Move.{Move}
 use Rattle.seg_journal.specs.declared.moves.Kind.TheVariants.{Admit}
-use Rattle.twe_machine.proofs.replays.Replayed.{first_at, passed_on}
+use Rattle.machine_state.proofs.replays.Replayed.{first_at, passed_on}
 use Rattle.span_profile.proofs.profiling.track.Goals as goal
 
 pub loop-i-preserved : goal.loop-i-preserved

@@ -1,10 +1,10 @@
 use Rattle.std.proofs.Common.{◌≡◌, ◌+◌, ℕ, ℤ, List, length, nat_lt, refl, ap, ◌∙◌, subst, arith}
 use Rattle.twe_program.specs.Program.{Program, cell_count}
 use Rattle.twe_program.specs.WellFormed.{IsWellFormed}
-use Rattle.seg_exec.specs.declared.frame.Frame.{Frame}
-use Rattle.seg_exec.proofs.Accesses.{may_carry_out}
-use Rattle.twe_machine.proofs.tasks.OneSegment.{run_settled, run_settles}
-use Rattle.twe_machine.proofs.lists.Places.{below_there}
+use Rattle.seg_meaning.specs.declared.frame.Frame.{Frame}
+use Rattle.seg_meaning.proofs.Accesses.{may_carry_out}
+use Rattle.machine_state.proofs.tasks.OneSegment.{run_settled, run_settles}
+use Rattle.machine_state.proofs.lists.Places.{below_there}
 use Rattle.span_profile.specs.inner.Sets.{NumberSet}
 use Rattle.span_profile.proofs.FuelTaken.{ready_fuel}
 use Rattle.span_profile.proofs.Ran.{has_done, lent, segment_lent}

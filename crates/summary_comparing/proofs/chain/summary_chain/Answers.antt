@@ -3,7 +3,7 @@ use Rattle.std.specs.Prelude.{slice_get}
 use Rattle.std.proofs.lemmas.Option.{slice_get_read}
 use Rattle.std.proofs.lemmas.Result.{IfOk-weaker}
 use Rattle.effect_sets.specs.declared.effects.Effect.{Effect}
-use Rattle.effect_infer.specs.declared.needs.need.Step.TheVariants.{Call}
+use Rattle.effect_infer.specs.declared.needs.need.BodyStep.TheVariants.{Call}
 use Rattle.summary_comparing.specs.Chained.{IsStepChain}
 use Rattle.summary_comparing.specs.inner.Sources.{effects_before}
 use Rattle.summary_comparing.proofs.Chained.{call-chain, effect-within}

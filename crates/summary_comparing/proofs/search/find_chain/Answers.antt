@@ -1,7 +1,7 @@
 use Rattle.std.proofs.Common.{◌≡◌, ◌++◌, List, Option, None, Some, inl, length, sym, subst, refl, arith}
 use Rattle.std.specs.Prelude.{slice_get}
 use Rattle.summary_comparing.specs.declared.bodies.BodySteps.{BodySteps}
-use Rattle.summary_comparing.specs.declared.states.State.{State}
+use Rattle.summary_comparing.specs.declared.states.SearchState.{SearchState}
 use Rattle.summary_comparing.specs.Placed.{all_bodies}
 use Rattle.summary_comparing.specs.inner.Search.{AreLinked, IsStarted, SearchEnds}
 use Rattle.summary_comparing.proofs.Complete.{not-needed}

@@ -1,7 +1,7 @@
 use Rattle.std.proofs.Common.{◌≡◌, ◌<◌, ℕ, false, Some}
 use Rattle.std.specs.Prelude.{slice_get}
 use Rattle.effect_infer.specs.declared.needs.need.Need.{Need}
-use Rattle.effect_infer.specs.declared.needs.need.Step.TheVariants.{Touch}
+use Rattle.effect_infer.specs.declared.needs.need.BodyStep.TheVariants.{Touch}
 use Rattle.summary_comparing.specs.inner.Standing.{is_match}
 use Rattle.summary_comparing.proofs.search.matching_step.Given as goal
 

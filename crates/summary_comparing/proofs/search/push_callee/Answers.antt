@@ -3,9 +3,9 @@ use Rattle.std.specs.Prelude.{slice_get}
 use Rattle.std.proofs.lemmas.Option.{slice_get_read, slice_get_within}
 use Rattle.std.proofs.lemmas.Result.{on_ok_weaker}
 use Rattle.region_paths.specs.declared.elements.Elem.{Elem}
-use Rattle.effect_infer.specs.declared.needs.need.Step.{Step}
-use Rattle.effect_infer.specs.declared.needs.need.Step.TheVariants.{Call}
-use Rattle.summary_comparing.specs.declared.states.State.{State}
+use Rattle.effect_infer.specs.declared.needs.need.BodyStep.{BodyStep}
+use Rattle.effect_infer.specs.declared.needs.need.BodyStep.TheVariants.{Call}
+use Rattle.summary_comparing.specs.declared.states.SearchState.{SearchState}
 use Rattle.summary_comparing.specs.inner.Standing.{callee_values}
 use Rattle.summary_comparing.specs.inner.Search.{IsLinked, IsListed, StatesGrow}
 use Rattle.summary_comparing.proofs.Linked.{at-end, grow-push, listed-at}
@@ -22,7 +22,7 @@ returns-clause-grows c =
     let body = c.in-Some.body.now in
     let look = c.in-Some.ensures.lookup in
     let there = slice_get_read bodies (length bodies) c.args.callee body refl look.3.0 look.1 in
-    let new : State = record { method = c.args.callee; values = c.in_ok-given.given; from = c.args.at; step = c.args.step } in
+    let new : SearchState = record { method = c.args.callee; values = c.in_ok-given.given; from = c.args.at; step = c.args.step } in
     let values : c.in_ok-given.given ≡ callee_values here.state.values target.elems args body.params =
     c.in_ok-given.ensures ∙ (ap (λ (ts : List Elem). callee_values c.args.values.now ts args body.params) c.as_slice.ensures
     ∙ ap (λ (vs : List (Option Elem)). callee_values vs target.elems args body.params) (sym here.values_are)) in
@@ -33,7 +33,7 @@ returns-clause-grows c =
       body = here.body;
       body_there = here.body_there;
       args = args;
-      calls = subst (λ (ss : List Step). slice_get ss c.args.step ≡ Some (Call c.args.callee args)) (sym here.steps_are) c.requires.called;
+      calls = subst (λ (ss : List BodyStep). slice_get ss c.args.step ≡ Some (Call c.args.callee args)) (sym here.steps_are) c.requires.called;
       called = (body, there, values);
     } in
     on_ok_weaker c.push.result (λ is. subst (StatesGrow bodies target states) (sym is) (grow-push bodies target states new link)) c.push.ensures.ok
@@ -48,10 +48,10 @@ returns-clause-listed c =
     let body = c.in-Some.body.now in
     let look = c.in-Some.ensures.lookup in
     let there = slice_get_read bodies (length bodies) c.args.callee body refl look.3.0 look.1 in
-    let new : State = record { method = c.args.callee; values = c.in_ok-given.given; from = c.args.at; step = c.args.step } in
+    let new : SearchState = record { method = c.args.callee; values = c.in_ok-given.given; from = c.args.at; step = c.args.step } in
     let values : c.in_ok-given.given ≡ callee_values c.args.values.now target.elems args body.params =
     c.in_ok-given.ensures ∙ ap (λ (ts : List Elem). callee_values c.args.values.now ts args body.params) c.as_slice.ensures in
     on_ok_weaker c.push.result
-    (λ is. subst (λ (ss : List State). IsListed bodies target ss c.args.values.now c.args.callee args) (sym is)
+    (λ is. subst (λ (ss : List SearchState). IsListed bodies target ss c.args.values.now c.args.callee args) (sym is)
     (listed-at bodies target (states ++ new ∷ []) c.args.values.now c.args.callee args body (length states) new there (at-end states new) refl values))
     c.push.ensures.ok

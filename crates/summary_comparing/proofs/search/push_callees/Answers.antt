@@ -2,9 +2,9 @@ use Rattle.std.proofs.Common.{◌≡◌, ◌+◌, List, Some, length, refl, sym,
 use Rattle.std.specs.Prelude.{slice_get}
 use Rattle.std.proofs.lemmas.Option.{slice_get_read}
 use Rattle.region_paths.specs.declared.elements.Elem.{Elem}
-use Rattle.effect_infer.specs.declared.needs.need.Step.{Step}
-use Rattle.effect_infer.specs.declared.needs.need.Step.TheVariants.{Touch, Call}
-use Rattle.summary_comparing.specs.declared.states.State.{State}
+use Rattle.effect_infer.specs.declared.needs.need.BodyStep.{BodyStep}
+use Rattle.effect_infer.specs.declared.needs.need.BodyStep.TheVariants.{Touch, Call}
+use Rattle.summary_comparing.specs.declared.states.SearchState.{SearchState}
 use Rattle.summary_comparing.specs.inner.Search.{CallsListed, IsListed, StatesGrow}
 use Rattle.summary_comparing.proofs.Linked.{grow-further, listed-more, listed-skip}
 use Rattle.summary_comparing.proofs.search.push_callees.Goals.{in-Touch, in-Call+in_ok-push_callee-in-Call}
@@ -20,7 +20,7 @@ loop-step-preserved c =
     let values = c.args.values.now in
     let steps = c.args.steps.now in
     let at = c.loop-step.step in
-    let item : Step = c.index-steps-step.result in
+    let item : BodyStep = c.index-steps-step.result in
     let there : slice_get steps at ≡ Some item = slice_get_read steps (length steps) at item refl c.loop-step-test.true c.index-steps-step.is in
     record {
       grows = elim c.match-each.branch [
@@ -29,9 +29,9 @@ loop-step-preserved c =
             (grow-further bodies target first states w.push_callee.new.states c.loop-step.invariant.grows w.in_ok-push_callee-in-Call.ensures.grows)
       ];
       listed = elim c.match-each.branch [
-        | in-Touch w ↦ subst (λ (ss : List State). CallsListed bodies target ss values steps (at + 1)) (sym w.states-is)
+        | in-Touch w ↦ subst (λ (ss : List SearchState). CallsListed bodies target ss values steps (at + 1)) (sym w.states-is)
             (listed-skip bodies target states values steps at _ c.loop-step.invariant.listed (there ∙ ap Some w.in-Touch.is))
-        | in-Call+in_ok-push_callee-in-Call w ↦ subst (λ (ss : List State). CallsListed bodies target ss values steps (at + 1)) (sym w.states-is)
+        | in-Call+in_ok-push_callee-in-Call w ↦ subst (λ (ss : List SearchState). CallsListed bodies target ss values steps (at + 1)) (sym w.states-is)
             (listed-more bodies target states w.push_callee.new.states values steps at w.in-Call.method w.in-Call.args w.in_ok-push_callee-in-Call.ensures.grows
             c.loop-step.invariant.listed (there ∙ ap Some w.in-Call.is)
             (subst (λ (xs : List Elem). IsListed bodies target w.push_callee.new.states values w.in-Call.method xs) w.as_slice.ensures w.in_ok-push_callee-in-Call.ensures.listed))

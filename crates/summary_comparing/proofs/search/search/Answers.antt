@@ -1,7 +1,7 @@
 use Rattle.std.proofs.Common.{◌≡◌, ◌<◌, ◌≤◌, ◌+◌, ℕ, List, Option, None, Some, length, sym, subst, arith}
 use Rattle.std.specs.Prelude.{IfNone, slice_get}
 use Rattle.std.proofs.lemmas.Option.{slice_get_within}
-use Rattle.summary_comparing.specs.declared.states.State.{State}
+use Rattle.summary_comparing.specs.declared.states.SearchState.{SearchState}
 use Rattle.summary_comparing.specs.inner.Search.{IsDoneWith}
 use Rattle.summary_comparing.proofs.Linked.{done-more, grow-further, grow-length}
 use Rattle.summary_comparing.proofs.search.search.Goals as goal
@@ -22,7 +22,7 @@ loop-at-preserved c =
     record {
       grows = grow-further bodies target first old new c.loop-at.invariant.grows grows;
       done = done-more bodies target old new at grows inside c.loop-at.invariant.done
-          (subst (λ (o : Option ℕ). IfNone o ((state : State) → slice_get old at ≡ Some state → IsDoneWith bodies target new state)) c.in_default.is c.in_ok-found.ensures.none);
+          (subst (λ (o : Option ℕ). IfNone o ((state : SearchState) → slice_get old at ≡ Some state → IsDoneWith bodies target new state)) c.in_default.is c.in_ok-found.ensures.none);
       inside = omega (arith, inside, more);
     }
 
@@ -32,7 +32,7 @@ of_uncountable-requires c =
     let long : c.as_slice.result.now ≡ c.loop-at.states = c.as_slice.ensures in
     let inside = c.loop-at.invariant.inside in
     let end = c.loop-at-test.false in
-    subst (λ (ss : List State). 4294967295 ≤ length ss) (sym long) (omega (arith, inside, end))
+    subst (λ (ss : List SearchState). 4294967295 ≤ length ss) (sym long) (omega (arith, inside, end))
 
 -- no state is left
 pub returns-then-at-len-clause-ends : goal.returns-then-at-len-clause-ends

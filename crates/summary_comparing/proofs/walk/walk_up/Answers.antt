@@ -3,7 +3,7 @@ use Rattle.std.specs.Prelude.{option_to_list, slice_get}
 use Rattle.std.proofs.lemmas.Option.{slice_get_read, slice_get_within}
 use Rattle.twe_base.specs.declared.place.Place.{Place}
 use Rattle.summary_comparing.specs.declared.bodies.BodySteps.{BodySteps}
-use Rattle.summary_comparing.specs.declared.states.State.{State}
+use Rattle.summary_comparing.specs.declared.states.SearchState.{SearchState}
 use Rattle.summary_comparing.specs.Placed.{all_bodies}
 use Rattle.summary_comparing.specs.Chains.{LeadsToNeed}
 use Rattle.summary_comparing.specs.inner.Search.{AreLinked, IsFoundAt, IsStarted}
@@ -38,9 +38,9 @@ loop-now-smaller c =
     let all = c.requires.all in
     let started = subst (λ (bs : List BodySteps). IsStarted bs c.args.method states) all c.requires.started in
     let linked = subst (λ (bs : List BodySteps). AreLinked bs c.args.target.now states) all c.requires.linked in
-    let state : State = c.index-as_slice-now.result in
-    let there = subst (λ (ss : List State). slice_get ss c.loop-now.now ≡ Some state) c.as_slice.ensures
-    (slice_get_read c.as_slice.result.now (length states) c.loop-now.now state (sym (ap (λ (ss : List State). length ss) c.as_slice.ensures)) c.loop-now.invariant.inside c.index-as_slice-now.is) in
+    let state : SearchState = c.index-as_slice-now.result in
+    let there = subst (λ (ss : List SearchState). slice_get ss c.loop-now.now ≡ Some state) c.as_slice.ensures
+    (slice_get_read c.as_slice.result.now (length states) c.loop-now.now state (sym (ap (λ (ss : List SearchState). length ss) c.as_slice.ensures)) c.loop-now.invariant.inside c.index-as_slice-now.is) in
     let above : 0 < c.loop-now.now = let test = c.loop-now-test.true in omega (arith, test) in
     (comes-earlier p c.args.target.now c.args.method states started linked c.loop-now.now state there above).0
 
@@ -54,9 +54,9 @@ loop-now-preserved c =
     let all = c.requires.all in
     let started = subst (λ (bs : List BodySteps). IsStarted bs method states) all c.requires.started in
     let linked = subst (λ (bs : List BodySteps). AreLinked bs target states) all c.requires.linked in
-    let state : State = c.index-as_slice-now.result in
-    let there = subst (λ (ss : List State). slice_get ss c.loop-now.now ≡ Some state) c.as_slice.ensures
-    (slice_get_read c.as_slice.result.now (length states) c.loop-now.now state (sym (ap (λ (ss : List State). length ss) c.as_slice.ensures)) c.loop-now.invariant.inside c.index-as_slice-now.is) in
+    let state : SearchState = c.index-as_slice-now.result in
+    let there = subst (λ (ss : List SearchState). slice_get ss c.loop-now.now ≡ Some state) c.as_slice.ensures
+    (slice_get_read c.as_slice.result.now (length states) c.loop-now.now state (sym (ap (λ (ss : List SearchState). length ss) c.as_slice.ensures)) c.loop-now.invariant.inside c.index-as_slice-now.is) in
     let above : 0 < c.loop-now.now = let test = c.loop-now-test.true in omega (arith, test) in
     let back = c.in_ok-push_place_of-2.ensures
     ∙ ap (λ (bs : List BodySteps). option_to_list (place_of_step bs (slice_get states state.from) state.step) ++ c.loop-now.back) all in

@@ -1,5 +1,5 @@
 use Rattle.std.proofs.Common.{◌≡◌, ◌++◌, drop, map}
-use Rattle.pasting_laws.specs.Clauses.{elem_of, texts_of}
+use Rattle.summary_texts.specs.paste_laws.Clauses.{elem_of, texts_of}
 use Rattle.summary_texts.proofs.clauses.elems_of.Given as goal
 
 -- the elements so far, with those of what is left

@@ -1,7 +1,7 @@
 use Rattle.std.proofs.Common.{◌<◌, ℕ, List, Option, sym, ap, ◌∙◌, subst}
 use Rattle.twe_base.specs.Language.{max_text_bytes}
 use Rattle.twe_program.specs.Program.{Program}
-use Rattle.text_meaning.specs.declared.read.Meaning.{Meaning}
+use Rattle.twe_frontend.specs.declared.meaning.read.Meaning.{Meaning}
 use Rattle.summary_texts.specs.Written.{HasSummaries}
 use Rattle.summary_texts.specs.Pasted.{IsTooLong, PasteHasCause}
 use Rattle.summary_texts.proofs.Causes.{from-again, from-settled, has-of, passed-on}

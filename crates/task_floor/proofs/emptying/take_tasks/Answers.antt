@@ -1,6 +1,6 @@
 use Rattle.std.proofs.Common.{List, rules, arith, sym, ap, ◌∙◌, ◌+◌, ◌++◌, map, take}
 use Rattle.core.specs.Mem.Slots.{slots_items}
-use Rattle.floor_table.specs.declared.nodes.slot.TreeSlot.{TreeSlot}
+use Rattle.floor_laws.specs.declared.table.nodes.slot.TreeSlot.{TreeSlot}
 use Rattle.task_floor.specs.inner.Emptying.{task_in}
 use Rattle.task_floor.specs.steps.inner.Reading.{held_in}
 use Rattle.task_floor.proofs.Emptied.{taken_more}

@@ -1,7 +1,7 @@
 use Rattle.std.proofs.Common.{◌≡◌, ◌++◌, ℤ, pos, List, [], ◌∷◌, take, get_or, sym, ap, subst, ◌∙◌, append_assoc, rules, w32, ℕ}
 use Rattle.std.proofs.lemmas.Int.{to_z-of_z}
 use mir.Val.{SFits}
-use Rattle.floor_table.specs.Layout.{value_of_word}
+use Rattle.floor_laws.specs.table.Layout.{value_of_word}
 use Rattle.task_floor.specs.steps.inner.Laying.{AreWordsOf, in_lines, unused_words}
 use Rattle.task_floor.proofs.steps.Laid.{one_line_more, one_word_more}
 use Rattle.task_floor.proofs.steps.Taken.{take_or}

@@ -3,7 +3,7 @@ use Rattle.std.specs.Prelude.{slice_set}
 use Rattle.std.proofs.lemmas.List.{length-map}
 use Rattle.wait_graph.specs.declared.tasks.Link.{Link}
 use Rattle.wait_graph.specs.Link.{link_of}
-use Rattle.twe_machine.specs.Rows.{link_of_row}
+use Rattle.machine_state.specs.Rows.{link_of_row}
 use Rattle.task_floor.specs.steps.inner.Reading.{links_to}
 use Rattle.task_floor.proofs.steps.Readings.{fresh_here, item_there, link_there, links_all, links_count, set_here}
 use Rattle.task_floor.proofs.linking.links_of.Goals as goal

@@ -1,7 +1,7 @@
 use Rattle.std.proofs.Common.{◌≡◌, List, Bool, if◌then◌else◌, subst}
 use Rattle.wait_graph.specs.declared.tasks.Link.{Link}
 use Rattle.wait_graph.specs.Link.{with_done, with_joined, with_wait}
-use Rattle.twe_machine.specs.Rows.{row_awaited, is_done_row}
+use Rattle.machine_state.specs.Rows.{row_awaited, is_done_row}
 use Rattle.task_floor.proofs.steps.Readings.{all_set}
 use Rattle.task_floor.proofs.linking.set_link.Goals as goal
 

@@ -4,7 +4,7 @@ use Rattle.std.specs.Prelude.{◌^◌}
 use Rattle.std.proofs.lemmas.Int.{to_z-of_z}
 use mathlib.Core.Option as core
 use mir.Val.{SFits}
-use Rattle.floor_table.specs.Layout.{number_at, value_of_word}
+use Rattle.floor_laws.specs.table.Layout.{number_at, value_of_word}
 use Rattle.task_floor.proofs.steps.Readings.{cells_step}
 use Rattle.task_floor.proofs.reading.cells_of.Goals as goal
 

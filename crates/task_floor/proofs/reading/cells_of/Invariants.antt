@@ -1,6 +1,6 @@
 use Rattle.std.proofs.Common.{◌≡◌}
 use Rattle.core.specs.Mem.Slots.{slots_items}
-use Rattle.floor_table.specs.Layout.{cell_words_from}
+use Rattle.floor_laws.specs.table.Layout.{cell_words_from}
 use Rattle.task_floor.proofs.reading.cells_of.Given as goal
 
 abbrev pub invariant-loop-c : goal.invariant-loop-c

@@ -1,5 +1,5 @@
 use Rattle.std.proofs.Common.{◌≡◌, drop}
-use Rattle.floor_rule.specs.Shown.{first_fault_in}
+use Rattle.floor_laws.specs.rule.Shown.{first_fault_in}
 use Rattle.task_floor.proofs.reading.first_fault_in.Given as goal
 
 abbrev pub invariant-loop-entry : goal.invariant-loop-entry

@@ -3,10 +3,10 @@ use Rattle.std.specs.Prelude.{slice_index_or}
 use Rattle.std.specs.List.{list_any}
 use Rattle.core.specs.Mem.Slots.{slots_items}
 use Rattle.std.specs.Vec.Iter.{into_iter_items}
-use Rattle.twe_machine.specs.declared.state.TaskRow.{TaskRow}
-use Rattle.floor_rule.specs.declared.view.TaskSlot.{TaskSlot}
-use Rattle.floor_rule.specs.Shown.{has_child, is_unjoined, row_by}
-use Rattle.floor_table.specs.Layout.{phase_of_word, phase_word_at}
+use Rattle.machine_state.specs.declared.state.TaskRow.{TaskRow}
+use Rattle.floor_laws.specs.declared.rule.view.TaskSlot.{TaskSlot}
+use Rattle.floor_laws.specs.rule.Shown.{has_child, is_unjoined, row_by}
+use Rattle.floor_laws.specs.table.Layout.{phase_of_word, phase_word_at}
 use Rattle.task_floor.specs.steps.inner.Reading.{joined_unless, rows_from}
 use Rattle.task_floor.proofs.steps.Readings.{drop_more, rows_step, take_more, unjoined_more}
 use Rattle.task_floor.proofs.reading.rows_of.Goals as goal

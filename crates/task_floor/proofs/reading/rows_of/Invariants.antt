@@ -2,7 +2,7 @@ use Rattle.std.proofs.Common.{◌≡◌, ◌+◌, ◌<◌, ◌++◌, ℕ, false,
 use Rattle.std.specs.Prelude.{slice_index_or}
 use Rattle.std.specs.Vec.Iter.{into_iter_items, into_iter_len}
 use Rattle.core.specs.Mem.Slots.{slots_items}
-use Rattle.floor_rule.specs.Shown.{is_unjoined}
+use Rattle.floor_laws.specs.rule.Shown.{is_unjoined}
 use Rattle.task_floor.specs.steps.inner.Reading.{rows_from}
 use Rattle.task_floor.proofs.reading.rows_of.Given as goal
 

@@ -1,5 +1,5 @@
 use Rattle.std.proofs.Common.{◌≡◌, ◌++◌, List, take}
-use Rattle.admission_laws.specs.admission_core.States.{Record}
+use Rattle.floor_laws.specs.admission.admission_core.States.{Record}
 use Rattle.task_floor.specs.inner.Recording.{AreRecordsOf}
 use Rattle.task_floor.proofs.recording.add_effects.Given as goal
 

@@ -1,7 +1,7 @@
 use Rattle.std.proofs.Common.{◌+◌, List, length, sym, ap, subst, ◌∙◌, arith}
 use Rattle.std.specs.Prelude.{slice_get}
-use Rattle.twe_machine.specs.declared.state.TaskRow.{TaskRow}
-use Rattle.floor_rule.specs.nodes.Starts.{AreOfEnabled}
+use Rattle.machine_state.specs.declared.state.TaskRow.{TaskRow}
+use Rattle.floor_laws.specs.rule.nodes.Starts.{AreOfEnabled}
 use Rattle.task_floor.proofs.steps.Readings.{item_there}
 use Rattle.task_floor.proofs.Gathered.{all_tasks, first_tasks, no_task_yet, task_added}
 use Rattle.task_floor.proofs.recording.records_of.Goals as goal

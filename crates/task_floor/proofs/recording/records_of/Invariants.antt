@@ -1,4 +1,4 @@
-use Rattle.floor_rule.specs.nodes.Starts.{AreOfEnabled}
+use Rattle.floor_laws.specs.rule.nodes.Starts.{AreOfEnabled}
 use Rattle.task_floor.proofs.Gathered.{first_tasks}
 use Rattle.task_floor.proofs.recording.records_of.Given as goal
 

@@ -3,7 +3,7 @@ use Rattle.std.proofs.Common.{◌≡◌, ◌∷◌, [], ℕ, List, Some, sym, ap
 use Rattle.std.specs.Prelude.{Result, Ok, Err, OnOk, slice_get, slice_set}
 use Rattle.std.proofs.lemmas.Option.{get_or_from_slice_get}
 use Rattle.effect_sets.specs.declared.effects.Effect.{Effect}
-use Rattle.admission_laws.specs.admission_core.States.{IsAmong, Record}
+use Rattle.floor_laws.specs.admission.admission_core.States.{IsAmong, Record}
 use Rattle.task_floor.specs.inner.Recording.{with_added}
 use Rattle.task_floor.proofs.sorting.add_copy.Goals as goal
 

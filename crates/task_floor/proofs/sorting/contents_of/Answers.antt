@@ -1,5 +1,5 @@
 use Rattle.std.proofs.Common.{List, [], ◌∷◌, ◌++◌, take, sym, subst, arith}
-use Rattle.admission_laws.specs.admission_core.States.{Record}
+use Rattle.floor_laws.specs.admission.admission_core.States.{Record}
 use Rattle.task_floor.proofs.steps.Taken.{take_item}
 use Rattle.task_floor.specs.inner.Recording.{HoldRecords}
 use Rattle.task_floor.proofs.Sorted.{item_among, item_new, new_here, none_yet, record_added}

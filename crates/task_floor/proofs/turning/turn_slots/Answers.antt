@@ -1,6 +1,6 @@
 use Rattle.std.proofs.Common.{◌≡◌, ℕ, length, sym, ap, ◌∙◌, arith}
 use Rattle.atomic_table.specs.Table.{turned}
-use Rattle.floor_table.specs.nodes.Seats.{TreeSeat}
+use Rattle.floor_laws.specs.table.nodes.Seats.{TreeSeat}
 use Rattle.task_floor.proofs.Rotations.{all_turned, turns, turns_next}
 use Rattle.task_floor.proofs.turning.turn_slots.Goals as goal
 

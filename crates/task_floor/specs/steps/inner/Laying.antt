@@ -1,9 +1,9 @@
 -- The words and the slots that show a state, as lists.
 use Rattle.std.specs.Prelude.{◌≡◌, ◌+◌, ◌*◌, ◌++◌, ◌<◌, ◌^◌, ℕ, zero, suc, ℤ, List, [], ◌∷◌, Option, Some}
-use Rattle.twe_machine.specs.declared.state.TaskRow.{TaskRow}
-use Rattle.floor_rule.specs.declared.view.TaskSlot.{TaskSlot}
-use Rattle.floor_rule.specs.Rows.{phase_of, slot_of}
-use Rattle.floor_table.specs.Layout.{free_word, new_word, value_of_word, word_of_phase}
+use Rattle.machine_state.specs.declared.state.TaskRow.{TaskRow}
+use Rattle.floor_laws.specs.declared.rule.view.TaskSlot.{TaskSlot}
+use Rattle.floor_laws.specs.rule.Rows.{phase_of, slot_of}
+use Rattle.floor_laws.specs.table.Layout.{free_word, new_word, value_of_word, word_of_phase}
 
 -- the words that are not used behind the clock, a cell's word or the two words of a task
 abbrev pub unused_words : List ℕ

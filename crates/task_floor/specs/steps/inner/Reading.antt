@@ -3,11 +3,11 @@ use Rattle.std.specs.Prelude.{◌+◌, ◌*◌, ℕ, zero, suc, Bool, false, not
 use lib.ListN.{get_elem?}
 use Rattle.wait_graph.specs.declared.tasks.Link.{Link}
 use Rattle.wait_graph.specs.Link.{new_link}
-use Rattle.twe_machine.specs.declared.state.TaskRow.{TaskRow}
-use Rattle.twe_machine.specs.Rows.{link_of_row}
-use Rattle.floor_rule.specs.declared.view.TaskSlot.{TaskSlot}
-use Rattle.floor_rule.specs.Shown.{is_unjoined, row_by}
-use Rattle.floor_table.specs.Layout.{phase_word_at, task_span}
+use Rattle.machine_state.specs.declared.state.TaskRow.{TaskRow}
+use Rattle.machine_state.specs.Rows.{link_of_row}
+use Rattle.floor_laws.specs.declared.rule.view.TaskSlot.{TaskSlot}
+use Rattle.floor_laws.specs.rule.Shown.{is_unjoined, row_by}
+use Rattle.floor_laws.specs.table.Layout.{phase_word_at, task_span}
 
 -- what lies in those slots that are not empty
 abbrev pub held_in : List (Option TaskSlot) → List TaskSlot

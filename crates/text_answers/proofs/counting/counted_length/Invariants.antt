@@ -1,5 +1,5 @@
 use Rattle.std.proofs.Common.{◌≡◌, ◌+◌, drop, length}
-use Rattle.twe_machine.specs.Runs.{counted}
+use Rattle.machine_state.specs.Runs.{counted}
 use Rattle.text_answers.proofs.counting.counted_length.Given as goal
 
 -- no entry before this place is a fault

@@ -1,8 +1,8 @@
 use Rattle.std.specs.Prelude.{◌≡◌, ◌++◌, codes, decimal}
 use Rattle.std.specs.List.{flat_map}
 use Rattle.twe_program.specs.Program.{Program}
-use Rattle.twe_machine.specs.declared.state.State.{State}
-use Rattle.twe_machine.specs.Runs.{state_after}
+use Rattle.machine_state.specs.declared.state.State.{State}
+use Rattle.machine_state.specs.Runs.{state_after}
 use Rattle.twe_report.specs.Texts.{cell_line, line, prints_text, result_text}
 use Rattle.determinism_laws.specs.results.Main.{HaveSameResult}
 use Rattle.text_answers.proofs.laws.deterministic_mains_have_one_result_text.Goals as goal

@@ -1,6 +1,6 @@
 use Rattle.std.proofs.Common.{◌≤◌, ◌+◌, ℕ, length, Err, ap, sym, ◌∙◌, subst}
 use Rattle.seg_journal.specs.Spelling.{head_lines}
-use Rattle.text_answers.proofs.Replays.{answers_illegal, answers_replayed, illegal_within}
+use Rattle.text_answers.proofs.Replays.{illegal_within, reply_to_illegal, reply_to_legal}
 use Rattle.text_answers.proofs.replaying.replay_found.Goals as goal
 
 -- the number of the illegal move is that of a move
@@ -13,14 +13,14 @@ line_of-requires c =
 -- the moves are replayed
 pub returns-in-Ok : goal.returns-in-Ok
 returns-in-Ok c =
-    answers_replayed c.args.p c.args.lim c.answer_replay.new.book c.args.found c.unwrap_or-lim.result c.as_slice-moves.result.now c.answer_replay.result
+    reply_to_legal c.args.p c.args.lim c.args.found c.unwrap_or-lim.result c.as_slice-moves.result.now c.answer_replay.result
     c.unwrap_or-lim.ensures c.as_slice-moves.ensures c.answer_replay.ensures
 
 -- or one is not legal
 pub returns-in_ok-line-in-Err-Illegal : goal.returns-in_ok-line-in-Err-Illegal
 returns-in_ok-line-in-Err-Illegal c =
     let first = c.in-Err-Illegal.ensures.illegal c.in-Err-Illegal.n c.in-Err-Illegal.field-0-1 (ap Err c.in-Err-Illegal.field-0-is) in
-    answers_illegal c.args.p c.args.lim c.refuse_journal.new.book c.args.found c.unwrap_or-lim.result c.as_slice-moves.result.now c.in-Err-Illegal.n c.line_of.result
+    reply_to_illegal c.args.p c.args.lim c.args.found c.unwrap_or-lim.result c.as_slice-moves.result.now c.in-Err-Illegal.n c.line_of.result
     c.in-Err-Illegal.field-0-1 c.in_ok-line-in-Err-Illegal.line c.refuse_journal.result c.unwrap_or-lim.ensures c.as_slice-moves.ensures first
     (c.line_of.ensures ∙ ap (λ (n : ℕ). length (head_lines c.args.found.head) + n) c.in-Err-Illegal.n-is) c.in_ok-line-in-Err-Illegal.ensures
     c.refuse_journal.ensures.program c.refuse_journal.ensures.answer

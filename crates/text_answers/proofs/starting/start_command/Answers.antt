@@ -12,7 +12,7 @@ returns-in-Given g c =
     let src = source g.S.Source.left g.S.Source.faults g.S.Source.read_gives in
     let given = subst (λ (i : Input). IsInputOf src c.args.cmd.now c.args.src.now c.input_of.new.src i) c.in-Given.is c.in_ok-input.ensures in
     let text = subst (λ (t : List ℕ). IsInputOf src c.args.cmd.now c.args.src.now c.input_of.new.src (Given t)) (sym c.as_slice.ensures) given in
-    of_input src c.args.cmd.now c.args.src.now c.input_of.new.src c.as_slice.result.now c.start_input.new.book c.start_input.result text c.start_input.ensures
+    of_input src c.args.cmd.now c.args.src.now c.input_of.new.src c.as_slice.result.now c.start_input.result text c.start_input.ensures
 
 -- what was read is short enough
 pub start_input-requires-clause-short : goal.start_input-requires-clause-short
@@ -26,4 +26,4 @@ pub returns-in-Failed : goal.returns-in-Failed
 returns-in-Failed g c =
     let src = source g.S.Source.left g.S.Source.faults g.S.Source.read_gives in
     subst (λ (i : Input). IsInputOf src c.args.cmd.now c.args.src.now c.input_of.new.src i) c.in-Failed.is c.in_ok-input.ensures
-    c.args.book.now c.requires.new
+    c.new-book.result c.new-book.ensures

@@ -1,6 +1,6 @@
 -- What was placed before the obstacle was taken out again.
 use Rattle.std.proofs.Common.{◌<◌, subst, sym}
-use Rattle.floor_table.specs.declared.nodes.slot.ErrandKind.TheVariants.{Admission}
+use Rattle.floor_laws.specs.declared.table.nodes.slot.ErrandKind.TheVariants.{Admission}
 use Rattle.tree_admit.specs.declared.bars.Bar.{Bar}
 use Rattle.tree_admit.specs.declared.placing.Obstacle.{Obstacle}
 use Rattle.tree_admit.specs.Attempts.{IsObstacle, WasBarredFor}

@@ -1,8 +1,8 @@
 -- Each step of the chain goes to a task with a higher number, to which the first one and those that were passed over are led.
 use Rattle.std.proofs.Common.{◌≤◌, ℕ, [], refl, subst, ◌∙◌, inl, inr, arith}
-use Rattle.admission_laws.specs.admission_core.States.{IsAmong}
+use Rattle.floor_laws.specs.admission.admission_core.States.{IsAmong}
 use Rattle.wait_graph.specs.Chain.{none}
-use Rattle.floor_table.specs.nodes.Chains.{starts}
+use Rattle.floor_laws.specs.table.nodes.Chains.{starts}
 use Rattle.tree_admit.proofs.Alone.{followed_alone, leads_on}
 use Rattle.tree_admit.proofs.Following.{followed_refl, followed_trans, follows_only, led_further}
 use Rattle.tree_admit.proofs.Chained.{chain_ended, chain_longer}

@@ -2,13 +2,13 @@
 -- was reached. The records that were passed over are at ease, or their tasks lead to that one too. The only stand knows that the first one waits for the one that was reached, or that its waits lead elsewhere.
 use Rattle.std.proofs.Common.{◌≡◌, ◌≢◌, ◌⊎◌, ◌≤◌, ◌<◌, ◌-◌, ◌++◌, ℕ, List}
 use Rattle.wait_graph.specs.Waiting.{WaitsOn}
-use Rattle.twe_machine.specs.declared.state.State.{State}
-use Rattle.floor_table.specs.Alone.{IsAloneAt}
-use Rattle.admission_laws.specs.admission_core.States.{IsAmong}
-use Rattle.floor_table.specs.declared.nodes.view.Look.{Look}
-use Rattle.floor_table.specs.nodes.Chains.{CameTo}
+use Rattle.machine_state.specs.declared.state.State.{State}
+use Rattle.floor_laws.specs.table.Alone.{IsAloneAt}
+use Rattle.floor_laws.specs.admission.admission_core.States.{IsAmong}
+use Rattle.floor_laws.specs.declared.table.nodes.view.Look.{Look}
+use Rattle.floor_laws.specs.table.nodes.Chains.{CameTo}
 use Rattle.tree_admit.specs.Alone.{HasOnlyTurnOf, LeadsElsewhere}
-use Rattle.floor_rule.specs.nodes.FactSteps.{IsKnownToWait}
+use Rattle.floor_laws.specs.rule.nodes.FactSteps.{IsKnownToWait}
 use Rattle.tree_admit.specs.Going.{HasOnlyFollowed}
 use Rattle.tree_admit.specs.Passing.{EachBetween}
 use Rattle.tree_admit.proofs.PassedOver.{PassesOrLeads}

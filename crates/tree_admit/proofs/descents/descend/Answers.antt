@@ -2,8 +2,8 @@
 use Rattle.std.proofs.Common.{List, None, subst, ◌∙◌}
 use Rattle.region_paths.specs.declared.elements.Elem.{Elem}
 use Rattle.prefix_tree.specs.Nodes.{IsParent, IsTreeOfPaths}
-use Rattle.admission_laws.specs.admission_core.States.{IsAbove}
-use Rattle.admission_laws.proofs.admission_core.TreeLemmas.{root_above}
+use Rattle.floor_laws.specs.admission.admission_core.States.{IsAbove}
+use Rattle.floor_laws.proofs.admission.admission_core.TreeLemmas.{root_above}
 use Rattle.tree_admit.proofs.ways.WayLemmas.{room_shrinks}
 use Rattle.tree_admit.specs.Errands.{errand_at}
 use Rattle.tree_admit.proofs.Descending.{descent_goes, descent_left, descent_stops}

@@ -1,7 +1,7 @@
 -- The stand holds one node above the place, alone.
 use Rattle.std.proofs.Common.{◌≡◌}
-use Rattle.admission_laws.specs.admission_core.States.{IsAbove}
-use Rattle.floor_table.specs.nodes.Seats.{HasOwn}
+use Rattle.floor_laws.specs.admission.admission_core.States.{IsAbove}
+use Rattle.floor_laws.specs.table.nodes.Seats.{HasOwn}
 use Rattle.tree_admit.specs.ways.Ways.{room_below}
 use Rattle.tree_admit.specs.Errands.{errand_at}
 use Rattle.tree_admit.specs.Going.{HasNode}

@@ -1,7 +1,7 @@
 -- The child is locked before the node is left.
 use Rattle.std.proofs.Common.{None}
-use Rattle.floor_table.specs.declared.nodes.slot.TreeSlot.TheVariants as kinds
-use Rattle.floor_table.specs.nodes.Layout.{content_place}
+use Rattle.floor_laws.specs.declared.table.nodes.slot.TreeSlot.TheVariants as kinds
+use Rattle.floor_laws.specs.table.nodes.Layout.{content_place}
 use Rattle.tree_admit.proofs.Stepping.{first, next, step_behind, step_came, step_leaves, step_may}
 use Rattle.tree_admit.proofs.descents.step_down.Goals as goal
 

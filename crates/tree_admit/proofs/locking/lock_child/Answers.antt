@@ -1,8 +1,8 @@
 -- The content is that of the node that was locked.
 use Rattle.std.proofs.Common.{subst}
 use mathlib.Core.Option.{none}
-use Rattle.admission_laws.specs.admission_core.States.{Activity}
-use Rattle.floor_table.specs.nodes.Seats.{MayLock, TookNode, TreeSeat}
+use Rattle.floor_laws.specs.admission.admission_core.States.{Activity}
+use Rattle.floor_laws.specs.table.nodes.Seats.{MayLock, TookNode, TreeSeat}
 use Rattle.tree_admit.proofs.Taking.{took_content, took_locked, took_own}
 use Rattle.tree_admit.proofs.locking.lock_child.Goals as goal
 

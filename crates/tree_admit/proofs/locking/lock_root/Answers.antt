@@ -1,9 +1,9 @@
 -- The content is that of the node that was locked.
 use Rattle.std.proofs.Common.{ℕ, subst}
 use mathlib.Core.Option.{some}
-use Rattle.admission_laws.specs.admission_core.States.{Activity}
-use Rattle.floor_table.specs.declared.nodes.slot.TreeSlot.TheVariants as kinds
-use Rattle.floor_table.specs.nodes.Seats.{MayLock, TookNode, TreeSeat}
+use Rattle.floor_laws.specs.admission.admission_core.States.{Activity}
+use Rattle.floor_laws.specs.declared.table.nodes.slot.TreeSlot.TheVariants as kinds
+use Rattle.floor_laws.specs.table.nodes.Seats.{MayLock, TookNode, TreeSeat}
 use Rattle.tree_admit.proofs.Taking.{took_content, took_locked, took_own}
 use Rattle.tree_admit.proofs.locking.lock_root.Goals as goal
 

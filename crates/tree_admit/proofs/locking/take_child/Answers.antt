@@ -1,7 +1,7 @@
 -- Who has not passed by the node is as it was.
 use Rattle.std.proofs.Common.{sym, subst}
 use mathlib.Core.Option.{none}
-use Rattle.floor_table.specs.nodes.Seats.{MayLock, TreeSeat}
+use Rattle.floor_laws.specs.table.nodes.Seats.{MayLock, TreeSeat}
 use Rattle.tree_admit.specs.Going.{HasLocked}
 use Rattle.tree_admit.proofs.locking.take_child.Goals as goal
 

@@ -1,6 +1,6 @@
 -- One record more is of the task, or may interfere with its effect.
 use Rattle.std.proofs.Common.{IsTrue, sym, ◌∙◌, arith}
-use Rattle.admission_laws.specs.admission_core.States.{Record}
+use Rattle.floor_laws.specs.admission.admission_core.States.{Record}
 use Rattle.tree_admit.specs.Passing.{is_own_or_meets}
 use Rattle.tree_admit.proofs.Between.{one_after, this_record}
 use Rattle.tree_admit.proofs.passing.none_is_apart.Goals as goal

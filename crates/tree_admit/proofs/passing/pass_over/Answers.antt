@@ -1,7 +1,7 @@
 -- The record at which the loop stops is not passed over; one that is joins those behind it.
 use Rattle.std.proofs.Common.{◌≡◌, ◌-◌, false, IsTrue, sym, ap, ◌∙◌, arith}
 use Rattle.std.specs.Prelude.{slice_get}
-use Rattle.admission_laws.specs.admission_core.States.{Record}
+use Rattle.floor_laws.specs.admission.admission_core.States.{Record}
 use Rattle.tree_admit.specs.Passing.{is_passed_over}
 use Rattle.tree_admit.proofs.Between.{one_before, this_record}
 use Rattle.tree_admit.proofs.passing.pass_over.Goals as goal

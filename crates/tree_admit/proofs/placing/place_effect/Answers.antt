@@ -1,7 +1,7 @@
 -- The errand is one for the effect, and its record is the effect's.
 use Rattle.std.proofs.Common.{List, refl, subst}
 use Rattle.region_paths.specs.declared.elements.Elem.{Elem}
-use Rattle.admission_laws.specs.admission_core.States.{IsPlaceOf}
+use Rattle.floor_laws.specs.admission.admission_core.States.{IsPlaceOf}
 use Rattle.tree_admit.specs.Descents.{IsOfChild}
 use Rattle.tree_admit.proofs.Attempts.{barred_of, effect_at, errand_for, placed_of, stood_of}
 use Rattle.tree_admit.proofs.placing.place_effect.Goals as goal

@@ -1,8 +1,8 @@
 -- The errand is one for the effect, and its record is the effect's.
 use Rattle.std.proofs.Common.{List, subst}
 use Rattle.region_paths.specs.declared.elements.Elem.{Elem}
-use Rattle.admission_laws.specs.admission_core.States.{IsPlaceOf}
-use Rattle.floor_table.specs.declared.nodes.slot.ErrandKind.TheVariants.{Removal}
+use Rattle.floor_laws.specs.admission.admission_core.States.{IsPlaceOf}
+use Rattle.floor_laws.specs.declared.table.nodes.slot.ErrandKind.TheVariants.{Removal}
 use Rattle.tree_admit.specs.Descents.{MayTakeOutOf}
 use Rattle.tree_admit.proofs.Attempts.{effect_at, errand_for, taken_out_of}
 use Rattle.tree_admit.proofs.releasing.take_out_effect.Goals as goal

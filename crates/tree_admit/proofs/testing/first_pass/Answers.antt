@@ -1,7 +1,7 @@
 -- Records that pass go on to pass while the stand learns of waits.
 use Rattle.std.proofs.Common.{◌-◌, ap, sym, ◌∙◌, arith}
-use Rattle.admission_laws.specs.admission_core.States.{Record}
-use Rattle.floor_table.specs.nodes.TreeOf.{content_in}
+use Rattle.floor_laws.specs.admission.admission_core.States.{Record}
+use Rattle.floor_laws.specs.table.nodes.TreeOf.{content_in}
 use Rattle.tree_admit.specs.Passing.{EaseOrWaits}
 use Rattle.tree_admit.proofs.Alone.{learned_served}
 use Rattle.tree_admit.proofs.Between.{at_is_among, both_between, one_before, this_record}

@@ -1,6 +1,6 @@
 -- A record at which the waits do not lead to the task is a bar.
 use Rattle.std.proofs.Common.{◌≢◌, ℕ, refl, sym, subst}
-use Rattle.admission_laws.specs.admission_core.States.{IsAmong}
+use Rattle.floor_laws.specs.admission.admission_core.States.{IsAmong}
 use Rattle.tree_admit.specs.Alone.{LeadsElsewhere}
 use Rattle.tree_admit.proofs.PassedOver.{uneasy}
 use Rattle.tree_admit.proofs.testing.record_leads.Goals as goal

@@ -1,6 +1,6 @@
 -- The records that are not decided are looked at.
 use Rattle.std.proofs.Common.{length, ap, ◌∙◌}
-use Rattle.floor_table.specs.nodes.TreeOf.{content_in}
+use Rattle.floor_laws.specs.table.nodes.TreeOf.{content_in}
 use Rattle.tree_admit.proofs.Alone.{learned_served}
 use Rattle.tree_admit.proofs.Decided.{decided_kept, looked_pass, looked_waits}
 use Rattle.tree_admit.proofs.Following.{followed_trans}

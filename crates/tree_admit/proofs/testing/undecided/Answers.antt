@@ -1,6 +1,6 @@
 -- The latest record decides for those before it: whom its task waits for, theirs wait for.
 use Rattle.std.proofs.Common.{sym, ap, ◌∙◌}
-use Rattle.floor_table.specs.nodes.TreeOf.{content_in}
+use Rattle.floor_laws.specs.table.nodes.TreeOf.{content_in}
 use Rattle.tree_admit.proofs.Alone.{learned_served}
 use Rattle.tree_admit.proofs.Between.{at_is_among}
 use Rattle.tree_admit.proofs.Decided.{decided_waits, looked_up}

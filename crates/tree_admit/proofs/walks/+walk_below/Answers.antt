@@ -4,7 +4,7 @@ use Rattle.std.proofs.lemmas.List.Elements.{Contains-get_or}
 use Rattle.region_paths.specs.declared.elements.Elem.{Elem}
 use Rattle.prefix_tree.specs.Nodes.{IsParent, IsTreeOfPaths}
 use Rattle.tree_admit.proofs.ways.WayLemmas.{room_shrinks}
-use Rattle.floor_table.specs.nodes.Seats.{TreeSeat, left_to_give}
+use Rattle.floor_laws.specs.table.nodes.Seats.{TreeSeat, left_to_give}
 use Rattle.tree_admit.specs.Descents.{walking}
 use Rattle.tree_admit.specs.Going.{HasOnlyLearned}
 use Rattle.tree_admit.proofs.Alone.{learned_served}

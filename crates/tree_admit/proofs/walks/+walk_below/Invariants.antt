@@ -1,7 +1,7 @@
 -- The stand has walked below the first children, and holds the node as before.
 use Rattle.std.proofs.Common.{◌≡◌, ℕ, List}
-use Rattle.floor_table.specs.declared.nodes.slot.TreeSlot.{TreeSlot}
-use Rattle.floor_table.specs.declared.nodes.view.TreeView.{TreeView}
+use Rattle.floor_laws.specs.declared.table.nodes.slot.TreeSlot.{TreeSlot}
+use Rattle.floor_laws.specs.declared.table.nodes.view.TreeView.{TreeView}
 use Rattle.tree_admit.specs.ways.Ways.{room_below}
 use Rattle.tree_admit.specs.Descents.{MayWalkBelow}
 use Rattle.tree_admit.specs.Going.{HasOnlyLearned}

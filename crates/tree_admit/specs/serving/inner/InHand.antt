@@ -4,17 +4,17 @@ use Rattle.twe_base.specs.Limits.{Bounds}
 use Rattle.twe_program.specs.Program.{Program}
 use Rattle.seg_journal.specs.declared.journal.End.{End}
 use Rattle.seg_journal.specs.declared.journal.End.TheVariants.{Made}
-use Rattle.seg_exec.specs.declared.stop.Stop.{Stop}
-use Rattle.twe_machine.specs.declared.state.TaskStatus.{TaskStatus}
-use Rattle.twe_machine.specs.declared.state.TaskStatus.TheVariants as status
-use Rattle.floor_rule.specs.declared.view.HeldTurn.{HeldTurn}
-use Rattle.floor_rule.specs.declared.view.Phase.{Phase}
-use Rattle.floor_rule.specs.declared.view.Phase.TheVariants as phases
-use Rattle.floor_rule.specs.declared.view.TaskSlot.{TaskSlot}
-use Rattle.floor_table.specs.Added.{HasGrown, IsAdded}
-use Rattle.floor_table.specs.FloorOf.{turn_in}
+use Rattle.seg_meaning.specs.declared.stop.Stop.{Stop}
+use Rattle.machine_state.specs.declared.state.TaskStatus.{TaskStatus}
+use Rattle.machine_state.specs.declared.state.TaskStatus.TheVariants as status
+use Rattle.floor_laws.specs.declared.rule.view.HeldTurn.{HeldTurn}
+use Rattle.floor_laws.specs.declared.rule.view.Phase.{Phase}
+use Rattle.floor_laws.specs.declared.rule.view.Phase.TheVariants as phases
+use Rattle.floor_laws.specs.declared.rule.view.TaskSlot.{TaskSlot}
+use Rattle.floor_laws.specs.table.Added.{HasGrown, IsAdded}
+use Rattle.floor_laws.specs.table.FloorOf.{turn_in}
 use Rattle.task_floor.specs.steps.Committing.{Log}
-use Rattle.floor_table.specs.nodes.Seats.{TreeSeat}
+use Rattle.floor_laws.specs.table.nodes.Seats.{TreeSeat}
 use Rattle.task_floor.specs.Committing.{MayCommitBeside}
 use Rattle.tree_admit.specs.inner.Served.{HasOnlyServed}
 use Rattle.task_floor.specs.Holding.{HoldsChildBeside, HoldsDrawnBeside, HoldsOneBeside}

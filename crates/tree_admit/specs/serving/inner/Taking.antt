@@ -1,7 +1,7 @@
 -- A task that a worker has taken in hand.
 use Rattle.std.specs.Prelude.{◌≡◌, ℕ, List}
 use Rattle.region_paths.specs.declared.elements.Elem.{Elem}
-use Rattle.floor_rule.specs.declared.view.HeldTurn.{HeldTurn}
+use Rattle.floor_laws.specs.declared.rule.view.HeldTurn.{HeldTurn}
 use Rattle.task_floor.specs.Holding.{HoldsTaskBeside}
 use Rattle.task_floor.specs.Stands.{TreeStand}
 use Rattle.tree_admit.specs.declared.serving.worker.Holding.{Holding}

@@ -1,7 +1,7 @@
 use Rattle.std.proofs.Common.{◌++◌, ℕ, ap, ◌∙◌}
 use Rattle.std.specs.Prelude.{codes}
 use Rattle.std.proofs.lemmas.Result.{on_ok_weaker}
-use Rattle.span_profile.specs.Schedules.{least_time}
+use Rattle.schedules.specs.Schedules.{least_time}
 use Rattle.twe_advise.specs.Texts.{word_number}
 use Rattle.twe_advise.proofs.Pieces.{four_pieces}
 use Rattle.twe_advise.proofs.json.push_json_time.Goals as goal

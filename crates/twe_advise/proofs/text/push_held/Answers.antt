@@ -9,8 +9,8 @@ pub returns : goal.returns
 unfolding held_text
 returns c =
     on_ok_weaker c.push_all.result
-    (three_left c.args.text.now (word_number (codes "held span ") c.args.held) (word_number (codes ", longer by ") (c.args.held - c.args.span))
-    (codes ": what effects wider than the accesses cost, and running ahead could win\n") c.push_number.new.text c.push_number-2.new.text c.push_all.new.self
+    (three_left c.args.text.now (word_number (codes "held span ") c.args.held) (word_number (codes ": the order of admissions adds ") (c.args.held - c.args.span))
+    (codes "\n") c.push_number.new.text c.push_number-2.new.text c.push_all.new.self
     (c.in_ok-push_number.ensures ∙ ap (λ (n : ℕ). c.args.text.now ++ word_number (codes "held span ") n) c.from.ensures)
-    (c.in_ok-push_number-2.ensures ∙ ap (λ (n : ℕ). c.push_number.new.text ++ word_number (codes ", longer by ") n) (c.from-2.ensures ∙ c.saturating_sub.ensures)))
+    (c.in_ok-push_number-2.ensures ∙ ap (λ (n : ℕ). c.push_number.new.text ++ word_number (codes ": the order of admissions adds ") n) (c.from-2.ensures ∙ c.saturating_sub.ensures)))
     c.push_all.ensures.ok

@@ -1,6 +1,6 @@
 use Rattle.std.proofs.Common.{subst}
 use Rattle.twe_frontend.specs.declared.read.FrontFail.{FrontFail}
-use Rattle.text_meaning.specs.Reading.{ReadingHasCause}
+use Rattle.twe_frontend.specs.meaning.Reading.{ReadingHasCause}
 use Rattle.twe_annotate.proofs.answering.answer_fail.Goals as goal
 
 -- the text is refused

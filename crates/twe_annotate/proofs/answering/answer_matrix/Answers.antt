@@ -6,7 +6,7 @@ use Rattle.twe_io.specs.declared.status.Status.TheVariants.{Done}
 use Rattle.twe_io.specs.Answers.{on_out}
 use Rattle.twe_annotate.specs.Answers.{AnnotateDue}
 use Rattle.twe_annotate.specs.Texts.{matrix_lines}
-use Rattle.twe_annotate.specs.declared.words.Request.TheVariants.{Matrix}
+use Rattle.twe_annotate.specs.declared.words.AnnotateRequest.TheVariants.{Matrix}
 use Rattle.twe_annotate.proofs.answering.answer_matrix.Goals as goal
 
 -- the lines of the matrix

@@ -1,6 +1,6 @@
 use Rattle.std.proofs.Common.{refl, sym, subst}
 use Rattle.twe_annotate.specs.Answers.{AnnotateDue}
-use Rattle.twe_annotate.specs.declared.words.Request.TheVariants.{Compare}
+use Rattle.twe_annotate.specs.declared.words.AnnotateRequest.TheVariants.{Compare}
 use Rattle.twe_annotate.proofs.comparing.answer_compare.Goals as goal
 
 -- the lines of the comparison

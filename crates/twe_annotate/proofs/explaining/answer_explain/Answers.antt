@@ -6,7 +6,7 @@ use Rattle.summary_comparing.specs.declared.lines.CompareLines.{CompareLines}
 use Rattle.summary_comparing.specs.ChainTexts.{AreNamedLines}
 use Rattle.twe_annotate.specs.Answers.{AnnotateDue}
 use Rattle.twe_annotate.specs.Compared.{unknown_text}
-use Rattle.twe_annotate.specs.declared.words.Request.TheVariants.{Explain}
+use Rattle.twe_annotate.specs.declared.words.AnnotateRequest.TheVariants.{Explain}
 use Rattle.twe_annotate.proofs.explaining.answer_explain.Goals as goal
 
 -- no method and no task has the name

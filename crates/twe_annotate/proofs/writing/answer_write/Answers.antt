@@ -6,7 +6,7 @@ use Rattle.summary_texts.specs.declared.fail.PasteFail.{PasteFail}
 use Rattle.summary_texts.specs.Pasted.{PasteHasCause}
 use Rattle.twe_annotate.specs.Answers.{AnnotateDue, AreLeastOf}
 use Rattle.twe_annotate.specs.Kept.{kept_lines}
-use Rattle.twe_annotate.specs.declared.words.Request.TheVariants.{Write}
+use Rattle.twe_annotate.specs.declared.words.AnnotateRequest.TheVariants.{Write}
 use Rattle.twe_annotate.proofs.Written.{are-least-of, due-written}
 use Rattle.twe_annotate.proofs.writing.answer_write.Goals as goal
 

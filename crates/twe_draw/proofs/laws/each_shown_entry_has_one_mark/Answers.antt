@@ -1,7 +1,7 @@
 use Rattle.std.proofs.Common.{◌≡◌, ◌+◌, ℕ, subst, arith}
-use Rattle.twe_machine.specs.Runs.{counted}
+use Rattle.machine_state.specs.Runs.{counted}
 use Rattle.span_profile.specs.Strands.{strands}
-use Rattle.run_picture.proofs.InTime.{one_bar_each}
+use Rattle.twe_draw.proofs.picture.InTime.{one_bar_each}
 use Rattle.twe_draw.specs.Marks.{marked, marks_of}
 use Rattle.twe_draw.proofs.OneMark.{one_mark, only_marked}
 use Rattle.twe_draw.proofs.laws.each_shown_entry_has_one_mark.Goals as goal

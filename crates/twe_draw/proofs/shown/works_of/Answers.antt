@@ -1,7 +1,7 @@
 use Rattle.std.proofs.Common.{None, get_or, replicate, ◌∙◌}
 use Rattle.seg_journal.specs.declared.journal.End.TheVariants.{Admitted}
 use Rattle.seg_journal.specs.declared.moves.Kind.TheVariants.{Admit}
-use Rattle.run_picture.specs.declared.bars.Mark.{Mark}
+use Rattle.twe_draw.specs.declared.picture.bars.EntryBar.{EntryBar}
 use Rattle.twe_draw.specs.Shown.{with_entry_work}
 use Rattle.twe_draw.proofs.Lists.{fold_at}
 use Rattle.twe_draw.proofs.Works.{small_more}
@@ -10,7 +10,7 @@ use Rattle.twe_draw.proofs.shown.works_of.Goals as goal
 -- one entry more was added
 pub loop-bar-preserved : goal.loop-bar-preserved
 loop-bar-preserved c =
-    let none : Mark = record {
+    let none : EntryBar = record {
       number = 0;
       task = 0;
       kind = Admit;
@@ -21,7 +21,7 @@ loop-bar-preserved c =
       previous = None;
       giver = None;
     } in
-    let bar : Mark = get_or c.args.bars.now c.loop-bar.bar-index none in
+    let bar : EntryBar = get_or c.args.bars.now c.loop-bar.bar-index none in
     record {
       count = c.add_work.ensures.length ∙ c.loop-bar.invariant.count;
       added =

@@ -3,7 +3,7 @@ use Rattle.twe_frontend.specs.declared.read.FrontFail.{FrontFail}
 use Rattle.twe_io.specs.declared.status.Status.TheVariants.{Refused}
 use Rattle.twe_io.specs.Answers.{on_err}
 use Rattle.twe_infer.specs.Answers.{InferDue}
-use Rattle.text_meaning.specs.Reading.{ReadingHasCause}
+use Rattle.twe_frontend.specs.meaning.Reading.{ReadingHasCause}
 use Rattle.twe_infer.proofs.answering.answer_text.Goals as goal
 
 -- the refusal of the text

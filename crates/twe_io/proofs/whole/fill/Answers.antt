@@ -1,6 +1,6 @@
-use Rattle.std.proofs.Common.{rules, inr, arith, length}
+use Rattle.std.proofs.Common.{rules, inr, arith, length, take}
 use Rattle.twe_io.specs.inner.Filling.{BreaksOff}
-use Rattle.twe_io.proofs.Progress.{Filled-none, Filled-more, reads_then, on_err}
+use Rattle.twe_io.proofs.Progress.{Filled-none, Filled-more, reads_then, reads_end, on_err}
 use Rattle.twe_io.proofs.whole.fill.Goals as goal
 
 pub loop-taken-init : goal.loop-taken-init
@@ -14,9 +14,9 @@ loop-taken-preserved g c =
 pub returns-in_err-given-clause-broken : goal.returns-in_err-given-clause-broken
 returns-in_err-given-clause-broken g c =
     let broken : BreaksOff g.S.Source.read_gives (length c.args.buffer.now) c.args.source.now c.read.new.self =
-    (c.loop-taken.taken, reads_then _ _ _ _ _ _ _ _ _ _ _ c.loop-taken.invariant (search rules) (omega arith) (search rules) c.in_err-given.ensures.gives) in
+    (take c.loop-taken.taken c.loop-taken.buffer, reads_then _ _ _ _ _ _ _ _ _ _ _ c.loop-taken.invariant (search rules) (omega arith) (search rules) c.in_err-given.ensures.gives) in
     on_err _ _ broken
 
 pub returns-then-given-eq0-clause-reads : goal.returns-then-given-eq0-clause-reads
 returns-then-given-eq0-clause-reads g c =
-    inr (rw (← c.if-given-eq0.true) (reads_then _ _ _ _ _ _ _ _ _ _ _ c.loop-taken.invariant (search rules) (omega arith) (search rules) c.in_ok-given.ensures.gives))
+    inr (reads_end _ _ _ _ _ _ _ _ _ _ _ _ _ c.loop-taken.invariant (search rules) (omega arith) (search rules) (search rules) c.in_ok-given.ensures.gives)

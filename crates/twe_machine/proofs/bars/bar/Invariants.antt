@@ -1,7 +1,7 @@
 use Rattle.std.proofs.Common.{◌<◌, ◌≢◌, ℕ}
-use Rattle.twe_machine.specs.declared.state.TaskStatus.TheVariants.{Enabled}
-use Rattle.twe_machine.specs.Legal.{Interfere, IsBar}
-use Rattle.twe_machine.specs.Rows.{HasStatus}
+use Rattle.machine_state.specs.declared.state.TaskStatus.TheVariants.{Enabled}
+use Rattle.machine_state.specs.Legal.{Interfere, IsBar}
+use Rattle.machine_state.specs.Rows.{HasStatus}
 use Rattle.wait_graph.specs.Waiting.{YieldsTo}
 use Rattle.twe_machine.proofs.bars.bar.Given as goal
 

@@ -4,7 +4,7 @@ use Rattle.std.specs.Prelude.{Bool}
 use Rattle.twe_machine.specs.declared.book.NodeTasks.{NodeTasks}
 use Rattle.twe_machine.specs.inner.Nodes.{entries_of}
 use Rattle.twe_machine.specs.Queues.{IsQueued}
-use Rattle.twe_machine.proofs.lists.Places.{set_same}
+use Rattle.machine_state.proofs.lists.Places.{set_same}
 use Rattle.twe_machine.proofs.listing.Books.{decided_set, keep_more, keep_set, keep_trans}
 use Rattle.twe_machine.proofs.book.push_at.Goals as goal
 

@@ -2,7 +2,7 @@ use Rattle.std.proofs.Common.{◌≡◌, List, Some, inl, inr, ap, ◌∙◌, su
 use Rattle.std.specs.Prelude.{slice_get}
 use Rattle.twe_machine.specs.declared.book.NodeTasks.{NodeTasks}
 use Rattle.twe_machine.specs.Queues.{IsDecided}
-use Rattle.twe_machine.proofs.lists.Places.{put_before, put_cases}
+use Rattle.machine_state.proofs.lists.Places.{put_before, put_cases}
 use Rattle.twe_machine.proofs.book.reach.Goals as goal
 
 pub reaching-preserved : goal.reaching-preserved

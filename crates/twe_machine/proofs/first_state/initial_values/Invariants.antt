@@ -1,5 +1,5 @@
 use Rattle.std.proofs.Common.{◌≡◌, ◌++◌, drop}
-use Rattle.twe_machine.specs.Moves.{initial_values}
+use Rattle.machine_state.specs.Moves.{initial_values}
 use Rattle.twe_machine.proofs.first_state.initial_values.Given as goal
 
 abbrev pub invariant-loop-cell : goal.invariant-loop-cell

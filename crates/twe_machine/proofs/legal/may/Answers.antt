@@ -1,8 +1,8 @@
 use Rattle.std.proofs.Common.{subst}
 use Rattle.twe_program.specs.WellFormed.{IsWellFormed}
-use Rattle.twe_machine.proofs.tasks.Filled.{reached_filled}
-use Rattle.twe_machine.proofs.standing.ReachedStands.{reached_stands}
-use Rattle.twe_machine.proofs.standing.SettlesNext.{as_many_links}
+use Rattle.machine_state.proofs.tasks.Filled.{reached_filled}
+use Rattle.machine_state.proofs.standing.ReachedStands.{reached_stands}
+use Rattle.machine_state.proofs.standing.SettlesNext.{as_many_links}
 use Rattle.twe_machine.proofs.legal.may.Goals as goal
 
 -- there are as many links as rows

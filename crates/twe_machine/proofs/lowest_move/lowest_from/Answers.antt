@@ -1,8 +1,8 @@
 use Rattle.std.proofs.Common.{arith, subst}
 use Rattle.twe_program.specs.WellFormed.{IsWellFormed}
-use Rattle.twe_machine.proofs.tasks.Movers.{mover_there, mover_undone}
-use Rattle.twe_machine.proofs.standing.ReachedStands.{reached_stands}
-use Rattle.twe_machine.proofs.standing.SettlesNext.{as_many_links}
+use Rattle.machine_state.proofs.tasks.Movers.{mover_there, mover_undone}
+use Rattle.machine_state.proofs.standing.ReachedStands.{reached_stands}
+use Rattle.machine_state.proofs.standing.SettlesNext.{as_many_links}
 use Rattle.twe_machine.proofs.lowest_move.lowest_from.Goals as goal
 
 -- each task was looked at

@@ -1,5 +1,5 @@
 use Rattle.std.proofs.Common.{arith}
-use Rattle.twe_machine.proofs.tasks.Settled.{made_is}
+use Rattle.machine_state.proofs.tasks.Settled.{made_is}
 use Rattle.twe_machine.proofs.making.make.Goals as goal
 
 pub returns-clause-state : goal.returns-clause-state

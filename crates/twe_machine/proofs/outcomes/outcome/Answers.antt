@@ -1,7 +1,7 @@
 use Rattle.std.proofs.Common.{◌≡◌, true, false, sym, ap, ◌∙◌}
 use Rattle.std.specs.List.{list_all}
-use Rattle.twe_machine.specs.Rows.{is_done_row}
-use Rattle.twe_machine.proofs.replays.AllDone.{all_are_done, all_done_told}
+use Rattle.machine_state.specs.Rows.{is_done_row}
+use Rattle.machine_state.proofs.replays.AllDone.{all_are_done, all_done_told}
 use Rattle.twe_machine.proofs.outcomes.outcome.Goals as goal
 
 pub returns-then-all_done : goal.returns-then-all_done

@@ -3,10 +3,10 @@ use Rattle.std.specs.Prelude.{slice_get}
 use Rattle.std.proofs.lemmas.Bool.{cases_lt}
 use Rattle.std.proofs.lemmas.Option.{slice_get_within}
 use Rattle.twe_machine.specs.declared.queue.Queued.{Queued}
-use Rattle.twe_machine.specs.declared.state.TaskStatus.TheVariants.{Enabled}
-use Rattle.twe_machine.specs.Queues.{DecidesAt, IsQueued, IsDecided, KeepsLeading, MayName}
-use Rattle.twe_machine.specs.Rows.{HasStatus}
-use Rattle.twe_machine.proofs.lists.Places.{got_one, put_cases, put_last}
+use Rattle.machine_state.specs.declared.state.TaskStatus.TheVariants.{Enabled}
+use Rattle.twe_machine.specs.Queues.{DecidesAt, IsQueued, IsDecided, KeepsWaiting, MayName}
+use Rattle.machine_state.specs.Rows.{HasStatus}
+use Rattle.machine_state.proofs.lists.Places.{got_one, put_cases, put_last}
 use Rattle.twe_machine.proofs.listing.Entries.{decided_put, some_same, task_before, task_put}
 use Rattle.twe_machine.proofs.queue.sifted.Goals as goal
 
@@ -54,7 +54,7 @@ loop-at-preserved c =
             at_end,
             λ j g low at.
                 let h = loop.invariant.back j g at in
-                subst (λ (u : ℕ). KeepsLeading links u e.task) h.4 ((c.requires loop.at loop.at e c.entry_at-entry.ensures own.1).1 e c.entry_at-entry.ensures h.0 h.1 h.2 h.3),
+                subst (λ (u : ℕ). KeepsWaiting links u e.task) h.4 ((c.requires loop.at loop.at e c.entry_at-entry.ensures own.1).1 e c.entry_at-entry.ensures h.0 h.1 h.2 h.3),
           )
     ] in
     let decided : IsDecided links (left ++ x ∷ []) = decided_put links left x loop.invariant.decided may in

@@ -1,6 +1,6 @@
 use Rattle.std.proofs.Common.{Err}
-use Rattle.twe_machine.specs.declared.replaying.ReplayFail.TheVariants.{Illegal}
-use Rattle.twe_machine.proofs.replays.Replayed.{never_both, only_legal, first_illegal, same_fail}
+use Rattle.machine_state.specs.declared.replay_fail.ReplayFail.TheVariants.{Illegal}
+use Rattle.machine_state.proofs.replays.Replayed.{never_both, only_legal, first_illegal, same_fail}
 use Rattle.twe_machine.proofs.replaying.replay.Goals as goal
 
 -- legal moves are replayed, and a first illegal move is named

@@ -1,10 +1,10 @@
 use Rattle.std.proofs.Common.{Err, List, ap, length, map, sym, subst}
 use Rattle.seg_journal.specs.declared.journal.Entry.{Entry}
 use Rattle.seg_journal.specs.Spelling.{move_of}
-use Rattle.twe_machine.specs.declared.state.State.{State}
+use Rattle.machine_state.specs.declared.state.State.{State}
 use Rattle.twe_machine.specs.Listings.{IsListing}
-use Rattle.twe_machine.specs.Runs.{IsRun}
-use Rattle.twe_machine.proofs.replays.Replayed.{first_at, passed_on}
+use Rattle.machine_state.specs.Runs.{IsRun}
+use Rattle.machine_state.proofs.replays.Replayed.{first_at, passed_on}
 use Rattle.twe_machine.proofs.replaying.replay_journal.Goals as goal
 
 -- no move was taken yet

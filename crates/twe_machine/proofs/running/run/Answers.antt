@@ -1,6 +1,6 @@
-use Rattle.seg_exec.proofs.Segments.{if_ok_map}
-use Rattle.twe_machine.proofs.tasks.OneSegment.{run_settled, run_settles}
-use Rattle.twe_machine.proofs.lists.Places.{below_there}
+use Rattle.seg_meaning.proofs.Results.{if_ok_map}
+use Rattle.machine_state.proofs.tasks.OneSegment.{run_settled, run_settles}
+use Rattle.machine_state.proofs.lists.Places.{below_there}
 use Rattle.twe_machine.proofs.running.run.Goals as goal
 
 -- what the segment leaves may be settled

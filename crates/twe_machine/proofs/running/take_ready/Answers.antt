@@ -1,7 +1,7 @@
 use Rattle.std.proofs.Common.{◌≡◌, SFits, w32, rules}
 use Rattle.std.proofs.lemmas.Int.{to_z-of_z}
-use Rattle.seg_exec.specs.Giving.{given}
-use Rattle.twe_machine.proofs.tasks.Ready.{taken_ready}
+use Rattle.seg_meaning.specs.Giving.{given}
+use Rattle.machine_state.proofs.tasks.Ready.{taken_ready}
 use Rattle.twe_machine.proofs.running.take_ready.Goals as goal
 
 -- the value is that of the rows before the frame was out

@@ -1,7 +1,7 @@
 use Rattle.std.proofs.Common.{arith}
-use Rattle.seg_exec.proofs.Segments.{if_ok_map}
-use Rattle.twe_machine.proofs.lists.Places.{below_there}
-use Rattle.twe_machine.proofs.tasks.Settled.{settled_is}
+use Rattle.seg_meaning.proofs.Results.{if_ok_map}
+use Rattle.machine_state.proofs.lists.Places.{below_there}
+use Rattle.machine_state.proofs.tasks.Settled.{settled_is}
 use Rattle.twe_machine.proofs.settling.settle.Goals as goal
 
 -- the taking of a join leaves as many rows and links

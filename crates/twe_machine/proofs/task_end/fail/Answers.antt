@@ -1,4 +1,4 @@
-use Rattle.twe_machine.proofs.tasks.Ended.{faulted_is}
+use Rattle.machine_state.proofs.tasks.Ended.{faulted_is}
 use Rattle.twe_machine.proofs.task_end.fail.Goals as goal
 
 pub returns-clause-state : goal.returns-clause-state

@@ -1,7 +1,7 @@
 use Rattle.std.proofs.Common.{◌≡◌}
 use Rattle.std.proofs.lemmas.Int.{to_z-of_z}
-use Rattle.twe_machine.specs.declared.state.TaskStatus.TheVariants.{Done}
-use Rattle.twe_machine.proofs.tasks.Ended.{finished_is}
+use Rattle.machine_state.specs.declared.state.TaskStatus.TheVariants.{Done}
+use Rattle.machine_state.proofs.tasks.Ended.{finished_is}
 use Rattle.twe_machine.proofs.task_end.finish.Goals as goal
 
 pub returns-clause-state : goal.returns-clause-state

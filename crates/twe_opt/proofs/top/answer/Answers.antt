@@ -16,10 +16,11 @@ pub answer_command-requires-clause-some : goal.answer_command-requires-clause-so
 answer_command-requires-clause-some g c = λ κs fits. (asked_range c.args.words.now c.in-Some.cmd (sym c.in-Some.ensures)).1
 
 -- their run is answered
-pub returns-in-Some : goal.returns-in-Some
-returns-in-Some g c =
+pub returns-in_ok-reply-in-Some : goal.returns-in_ok-reply-in-Some
+returns-in_ok-reply-in-Some g c =
     let src = source g.S.Source.left g.S.Source.faults g.S.Source.read_gives in
-    cause_asked src c.args.words.now c.args.src.now _ c.answer_command.new.book c.in-Some.cmd c.answer_command.result (sym c.in-Some.ensures) c.answer_command.ensures
+    let made = c.in_ok-reply-in-Some in
+    cause_asked src c.args.words.now c.args.src.now c.answer_command.new.src made.reply.book c.in-Some.cmd made.reply.answer (sym c.in-Some.ensures) made.ensures
 
 -- they ask for no run
 pub returns-in_ok-usage_text-in-None : goal.returns-in_ok-usage_text-in-None

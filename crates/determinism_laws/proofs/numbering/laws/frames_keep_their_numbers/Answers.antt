@@ -1,5 +1,5 @@
 use Rattle.std.proofs.Common.{ap}
-use Rattle.twe_machine.specs.Moves.{frame_without_prints}
+use Rattle.machine_state.specs.Moves.{frame_without_prints}
 use Rattle.determinism_laws.proofs.numbering.BetweenSegments.{entry_renumbered, given_renumbered, made_renumbered, numberings_agree}
 use Rattle.determinism_laws.proofs.numbering.laws.frames_keep_their_numbers.Goals as goal
 

@@ -1,7 +1,7 @@
 use Rattle.std.proofs.Common.{ap, subst}
 use Rattle.seg_journal.specs.declared.journal.End.{End}
 use Rattle.twe_program.specs.WellFormed.{IsWellFormed}
-use Rattle.twe_machine.specs.declared.state.State.{State}
+use Rattle.machine_state.specs.declared.state.State.{State}
 use Rattle.twe_machine.proofs.listing.Listed.{was_listed}
 use Rattle.floor_crew.proofs.StillRuns.{longer_by_entry, reached, run_after}
 use Rattle.floor_crew.proofs.at_rest.RunAtRest.take.Goals as goal

@@ -12,6 +12,6 @@ returns-clause-ok c =
     let old = c.in_ok-run.run' in
     let new = c.step_quietly.new.run in
     let prog : c.args.p.now ≡ crew.prog.value = c.requires ∙ sym (ap (λ (seen : CrewRun). seen.prog) c.self.view_is) in
-    quiet_kept crew.prog.value crew.lim crew.workers c.args.self.now crew.run old new c.in_ok-found.found
+    quiet_kept crew.prog.value crew.lim crew.workers c.args.self.now crew.run old new c.in_ok-end.end
     (sym c.take.ensures.value ∙ c.in_ok-run.ensures.ok_part) c.self.invariant.3 c.self.view_is
-    (subst (λ (p : Program). Steps p crew.lim old new c.in_ok-found.found) prog c.in_ok-found.ensures.steps)
+    (subst (λ (p : Program). Steps p crew.lim old new c.in_ok-end.end) prog c.in_ok-end.ensures.steps)

@@ -3,7 +3,7 @@ use Rattle.std.specs.Prelude.{OnOk}
 use Rattle.seg_journal.specs.declared.journal.End.{End}
 use Rattle.twe_base.specs.Limits.{Bounds, IsWithin}
 use Rattle.twe_program.specs.WellFormed.{IsWellFormed}
-use Rattle.twe_machine.specs.declared.state.State.{State}
+use Rattle.machine_state.specs.declared.state.State.{State}
 use Rattle.span_profile.specs.Recorders.{node_with}
 use Rattle.span_profile.specs.heaviest_chain.Built.{FrontHolds}
 use Rattle.span_profile.specs.heaviest_chain.Nodes.{Node}

@@ -2,7 +2,7 @@ use Rattle.std.proofs.Common.{◌≡◌, sym, ap, ◌∙◌, subst}
 use Rattle.twe_program.specs.Program.{Program}
 use Rattle.twe_rounds.specs.Crews.{CrewRun}
 use Rattle.opt_crew.specs.Keeping.{IsSound}
-use Rattle.opt_crew.proofs.QuietSteps.{longer_kept, round_kept}
+use Rattle.opt_crew.proofs.QuietSteps.{grows_kept, round_kept}
 use Rattle.opt_crew.proofs.crew.OptCrew.round.Goals as goal
 
 -- what the round does to the run it does to the crew
@@ -20,5 +20,5 @@ returns-clause-ok g c =
 pub returns-clause-longer : goal.returns-clause-longer
 returns-clause-longer g c =
     let crew = c.self.inside in
-    longer_kept crew.prog.value crew.lim crew.workers c.args.self.now crew.run c.in_ok-run.run' c.in_ok-after.after
+    grows_kept crew.prog.value crew.lim crew.workers c.args.self.now crew.run c.in_ok-run.run' c.in_ok-after.after
     (sym c.take.ensures.value ∙ c.in_ok-run.ensures.ok_part) c.self.invariant.2 c.self.view_is c.in_ok-after.ensures.longer

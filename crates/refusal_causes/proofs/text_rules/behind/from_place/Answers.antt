@@ -1,5 +1,5 @@
 use Rattle.std.proofs.Common.{◌≡◌, drop, ◌∙◌, ap}
-use Rattle.place_notes.specs.Lines.{after_lines}
+use Rattle.twe_frontend.specs.Lines.{after_lines}
 use Rattle.refusal_causes.specs.text_rules.Behind.{from_place}
 use Rattle.refusal_causes.proofs.text_rules.Lines.{stands_behind}
 use Rattle.refusal_causes.proofs.text_rules.behind.from_place.Goals as goal

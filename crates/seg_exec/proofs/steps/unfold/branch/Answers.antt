@@ -1,8 +1,8 @@
 use Rattle.std.proofs.Common.{◌≡◌, List, None, Some, sym, ◌∙◌, ap}
 use Rattle.std.specs.Prelude.{option_copied, slice_get}
 use Rattle.twe_program.specs.declared.stmt.Arm.{Arm}
-use Rattle.seg_exec.specs.Remaining.{branch_of}
-use Rattle.seg_exec.proofs.Remains.{branch_is, branch_past, no_branch}
+use Rattle.seg_meaning.specs.Remaining.{branch_of}
+use Rattle.seg_meaning.proofs.Remains.{branch_is, branch_past, no_branch}
 use Rattle.seg_exec.proofs.steps.unfold.branch.Goals as goal
 
 pub returns-in-Some : goal.returns-in-Some

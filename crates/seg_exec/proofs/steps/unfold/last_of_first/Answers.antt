@@ -1,5 +1,5 @@
 use Rattle.std.proofs.Common.{sym, ◌∙◌}
-use Rattle.seg_exec.proofs.Remains.{last_is}
+use Rattle.seg_meaning.proofs.Remains.{last_is}
 use Rattle.seg_exec.proofs.steps.unfold.last_of_first.Goals as goal
 
 pub returns-else-count-eq0 : goal.returns-else-count-eq0

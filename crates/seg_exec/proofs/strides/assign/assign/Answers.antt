@@ -2,7 +2,7 @@ use Rattle.std.proofs.Common.{◌≡◌, ap, rules, sym, ◌∙◌}
 use Rattle.twe_program.specs.Statement.{SetArray, Statement}
 use Rattle.twe_program.specs.inner.StatementView.{statement_of}
 use Rattle.seg_exec.specs.declared.strides.assign.Target.TheVariants.{Var, Cell}
-use Rattle.seg_exec.specs.Access.{ways_of}
+use Rattle.seg_meaning.specs.Access.{ways_of}
 use Rattle.seg_exec.specs.inner.strides.Assignments.{to_element, to_target}
 use Rattle.seg_exec.specs.inner.steps.Continuations.{Config}
 use Rattle.seg_exec.specs.inner.steps.Steps.{executed, is_return}

@@ -4,8 +4,8 @@ use Rattle.std.specs.Prelude.{slice_set}
 use Rattle.seg_exec.specs.declared.strides.assign.Carried.TheVariants.{Done}
 use Rattle.seg_exec.specs.declared.strides.assign.Target.{Target}
 use Rattle.seg_exec.specs.declared.strides.assign.Target.TheVariants.{Var}
-use Rattle.seg_exec.specs.Access.{HasWritten, ways_of}
-use Rattle.seg_exec.specs.Cells.{cell_number}
+use Rattle.seg_meaning.specs.Access.{HasWritten, ways_of}
+use Rattle.seg_meaning.specs.Cells.{cell_number}
 use Rattle.seg_exec.specs.inner.steps.Bodies.{Bodies}
 use Rattle.seg_exec.specs.inner.strides.Assignments.{Does, MayDo, to_target}
 use Rattle.seg_exec.proofs.strides.Assigning.{at_vars, cell_done, cell_may_write, target_fault, var_done}

@@ -1,8 +1,8 @@
 use Rattle.std.proofs.Common.{ℤ, Ok, Err, SFits, w32, to_z, of_z, ap, rules, sym, subst, ◌∙◌}
 use Rattle.std.proofs.lemmas.Int.{to_z-of_z}
-use Rattle.seg_exec.specs.Access.{ways_of}
-use Rattle.seg_exec.specs.Cells.{element_number}
-use Rattle.seg_exec.specs.declared.fault.FaultCause.TheVariants.{Index}
+use Rattle.seg_meaning.specs.Access.{ways_of}
+use Rattle.seg_meaning.specs.Cells.{element_number}
+use Rattle.seg_meaning.specs.declared.fault.FaultCause.TheVariants.{Index}
 use Rattle.seg_exec.specs.inner.strides.Assignments.{MayWriteAt, WritesAt}
 use Rattle.seg_exec.proofs.strides.Assigning.{at_vars, element_done, element_may_write, index_fault, may_at_vars, value_fault, value_may}
 use Rattle.seg_exec.proofs.strides.assign.set_element.Goals as goal

@@ -2,7 +2,7 @@ use Rattle.std.proofs.Common.{◌≡◌, drop, rules, subst}
 use Rattle.twe_program.specs.Statement.{Statements, statements_of}
 use Rattle.twe_program.specs.inner.StatementView.{arms_of}
 use Rattle.seg_exec.specs.declared.strides.pick.Picked.TheVariants.{Faulted, Nothing, Body, Left}
-use Rattle.seg_exec.specs.Access.{ways_of}
+use Rattle.seg_meaning.specs.Access.{ways_of}
 use Rattle.seg_exec.specs.inner.steps.Continuations.{Choose, Rest}
 use Rattle.seg_exec.specs.inner.steps.Reached.{standing}
 use Rattle.seg_exec.specs.inner.steps.Views.{config_of}

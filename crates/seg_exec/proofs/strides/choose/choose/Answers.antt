@@ -1,7 +1,7 @@
 use Rattle.std.proofs.Common.{◌+◌, List, drop, ap}
 use Rattle.twe_program.specs.declared.stmt.Arm.{Arm}
 use Rattle.twe_program.specs.inner.StatementView.{arms_of}
-use Rattle.seg_exec.specs.Access.{ways_of}
+use Rattle.seg_meaning.specs.Access.{ways_of}
 use Rattle.seg_exec.specs.inner.steps.Continuations.{Choose, Chosen, Evaluate, to_do}
 use Rattle.seg_exec.specs.inner.steps.Reached.{standing}
 use Rattle.seg_exec.specs.inner.steps.Steps.{choosing}
@@ -11,7 +11,7 @@ use Rattle.seg_exec.proofs.strides.GoingOn.{next_is}
 use Rattle.seg_exec.specs.inner.strides.Strides.{doing}
 use Rattle.seg_exec.proofs.strides.Moving.{moves_carried, moves_silent}
 use Rattle.seg_exec.proofs.strides.Performing.{carries_step, may_silent}
-use Rattle.seg_exec.proofs.Segments.{if_ok_map}
+use Rattle.seg_meaning.proofs.Results.{if_ok_map}
 use Rattle.seg_exec.proofs.strides.choose.choose.Goals as goal
 
 pub evaluate_then-requires : goal.evaluate_then-requires

@@ -1,7 +1,7 @@
 use Rattle.std.proofs.Common.{◌≡◌, ap, rules, sym, ◌∙◌}
 use Rattle.twe_program.specs.Expression.{Expression}
 use Rattle.twe_program.specs.inner.ExpressionView.{expression_of}
-use Rattle.seg_exec.specs.Access.{ways_of}
+use Rattle.seg_meaning.specs.Access.{ways_of}
 use Rattle.seg_exec.specs.inner.steps.Continuations.{Config, Evaluate, Right, to_do}
 use Rattle.seg_exec.specs.inner.steps.Reached.{standing}
 use Rattle.seg_exec.specs.inner.steps.Steps.{evaluated, on}
@@ -9,7 +9,7 @@ use Rattle.seg_exec.specs.inner.steps.Views.{config_of}
 use Rattle.seg_exec.specs.inner.strides.Moving.{course}
 use Rattle.seg_exec.proofs.strides.Moving.{moves_silent}
 use Rattle.seg_exec.proofs.strides.Performing.{may_silent}
-use Rattle.seg_exec.proofs.Segments.{if_ok_map}
+use Rattle.seg_meaning.proofs.Results.{if_ok_map}
 use Rattle.seg_exec.proofs.strides.evaluate.begin.Goals as goal
 
 pub operand-requires : goal.operand-requires

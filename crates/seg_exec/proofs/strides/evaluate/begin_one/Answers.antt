@@ -2,7 +2,7 @@ use Rattle.std.proofs.Common.{[], ap, sym, ◌∙◌}
 use Rattle.twe_program.specs.Expression.{Expression}
 use Rattle.twe_program.specs.inner.ExpressionView.{expression_of}
 use Rattle.seg_exec.specs.declared.steps.continuation.Goal.TheVariants.{Enter}
-use Rattle.seg_exec.specs.Access.{ways_of}
+use Rattle.seg_meaning.specs.Access.{ways_of}
 use Rattle.seg_exec.specs.inner.steps.Continuations.{Evaluate, Gather, to_do}
 use Rattle.seg_exec.specs.inner.steps.Reached.{standing}
 use Rattle.seg_exec.specs.inner.steps.Steps.{evaluated}
@@ -11,7 +11,7 @@ use Rattle.seg_exec.specs.inner.strides.Strides.{doing}
 use Rattle.seg_exec.specs.inner.strides.Moving.{course}
 use Rattle.seg_exec.proofs.strides.Moving.{moves_carried, moves_silent}
 use Rattle.seg_exec.proofs.strides.Performing.{carries_step, may_request, may_silent}
-use Rattle.seg_exec.proofs.Segments.{if_ok_map}
+use Rattle.seg_meaning.proofs.Results.{if_ok_map}
 use Rattle.seg_exec.proofs.strides.evaluate.begin_one.Goals as goal
 
 pub call-requires : goal.call-requires

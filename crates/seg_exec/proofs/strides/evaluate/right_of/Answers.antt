@@ -1,6 +1,6 @@
 use Rattle.std.proofs.Common.{◌≡◌, None, Some, rules}
-use Rattle.seg_exec.specs.Access.{ways_of}
-use Rattle.seg_exec.specs.Arithmetic.{decided, is_true}
+use Rattle.seg_meaning.specs.Access.{ways_of}
+use Rattle.seg_meaning.specs.Arithmetic.{decided, is_true}
 use Rattle.seg_exec.specs.inner.steps.Continuations.{Apply, Evaluate, Right, to_do, top, with_operand, without_operand}
 use Rattle.seg_exec.specs.inner.steps.Reached.{standing}
 use Rattle.seg_exec.specs.inner.strides.Strides.{doing}
@@ -9,7 +9,7 @@ use Rattle.seg_exec.specs.inner.strides.Moving.{course}
 use Rattle.seg_exec.proofs.strides.Moving.{moves_silent}
 use Rattle.seg_exec.proofs.strides.Performing.{left_decides, may_silent, right_counts}
 use Rattle.seg_exec.proofs.strides.Strides.{silent}
-use Rattle.seg_exec.proofs.Segments.{if_ok_map}
+use Rattle.seg_meaning.proofs.Results.{if_ok_map}
 use Rattle.seg_exec.proofs.strides.evaluate.right_of.Goals as goal
 
 pub evaluate_then-requires : goal.evaluate_then-requires

@@ -1,7 +1,7 @@
 use Rattle.std.proofs.Common.{◌≡◌, ℤ, List, [], ◌∷◌, ◌++◌, SFits, w32, ap, sym, subst, ◌∙◌, rules}
 use Rattle.std.proofs.lemmas.Int.{to_z-of_z}
 use Rattle.twe_program.specs.Expression.{arguments_of}
-use Rattle.seg_exec.specs.Access.{ways_of}
+use Rattle.seg_meaning.specs.Access.{ways_of}
 use Rattle.seg_exec.specs.inner.steps.Bodies.{with_active}
 use Rattle.seg_exec.specs.inner.steps.Continuations.{Gather, Take, to_do, top}
 use Rattle.seg_exec.specs.inner.steps.Reached.{standing}
@@ -11,7 +11,7 @@ use Rattle.seg_exec.specs.inner.strides.Strides.{MayGo}
 use Rattle.seg_exec.proofs.strides.Gathering.{all_pushed, took}
 use Rattle.seg_exec.proofs.strides.Moving.{moves_silent}
 use Rattle.seg_exec.proofs.strides.Performing.{may_silent}
-use Rattle.seg_exec.proofs.Segments.{if_ok_map}
+use Rattle.seg_meaning.proofs.Results.{if_ok_map}
 use Rattle.seg_exec.proofs.strides.gather.take.Goals as goal
 
 pub gather-requires-clause-may : goal.gather-requires-clause-may

@@ -1,7 +1,7 @@
 use Rattle.std.proofs.Common.{◌∷◌, SFits, w32, drop, ap, rules}
 use Rattle.std.proofs.lemmas.Int.{to_z-of_z}
 use Rattle.twe_program.specs.Statement.{statements_of}
-use Rattle.seg_exec.specs.Access.{ways_of}
+use Rattle.seg_meaning.specs.Access.{ways_of}
 use Rattle.seg_exec.specs.inner.steps.Continuations.{Rest, Unwind, with_operand}
 use Rattle.seg_exec.specs.inner.steps.Reached.{standing}
 use Rattle.seg_exec.specs.inner.steps.Views.{config_of}
@@ -10,7 +10,7 @@ use Rattle.seg_exec.proofs.strides.GivenBack.{given_past, returning_from}
 use Rattle.seg_exec.proofs.strides.Moving.{then_moves}
 use Rattle.seg_exec.proofs.strides.Performing.{carries_fault}
 use Rattle.seg_exec.proofs.strides.Strides.{may_then}
-use Rattle.seg_exec.proofs.Segments.{if_ok_map}
+use Rattle.seg_meaning.proofs.Results.{if_ok_map}
 use Rattle.seg_exec.proofs.strides.give.give.Goals as goal
 
 pub returns-in-Err : goal.returns-in-Err

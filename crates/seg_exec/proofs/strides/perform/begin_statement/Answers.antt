@@ -1,6 +1,6 @@
 use Rattle.std.proofs.Common.{List, drop, ap, sym, ◌∙◌}
 use Rattle.twe_program.specs.Statement.{Statement, statements_of}
-use Rattle.seg_exec.specs.Access.{ways_of}
+use Rattle.seg_meaning.specs.Access.{ways_of}
 use Rattle.seg_exec.specs.inner.steps.Continuations.{Config, Execute, Rest, to_do}
 use Rattle.seg_exec.specs.inner.steps.Reached.{standing}
 use Rattle.seg_exec.specs.inner.steps.Steps.{on, rested}
@@ -9,7 +9,7 @@ use Rattle.seg_exec.specs.inner.strides.Moving.{course}
 use Rattle.seg_exec.proofs.strides.GoingOn.{next_is}
 use Rattle.seg_exec.proofs.strides.Moving.{moves_silent}
 use Rattle.seg_exec.proofs.strides.Performing.{may_silent}
-use Rattle.seg_exec.proofs.Segments.{if_ok_map}
+use Rattle.seg_meaning.proofs.Results.{if_ok_map}
 use Rattle.seg_exec.proofs.strides.perform.begin_statement.Goals as goal
 
 pub begin_execution-requires : goal.begin_execution-requires

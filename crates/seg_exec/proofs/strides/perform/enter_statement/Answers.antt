@@ -1,7 +1,7 @@
 use Rattle.std.proofs.Common.{◌≡◌, ◌+◌, true, false, Some, ap, rules, sym, ◌∙◌}
 use Rattle.twe_program.specs.Statement.{Return, Statement}
 use Rattle.twe_program.specs.inner.StatementView.{statement_of}
-use Rattle.seg_exec.specs.Access.{ways_of}
+use Rattle.seg_meaning.specs.Access.{ways_of}
 use Rattle.seg_exec.specs.inner.steps.Continuations.{Choose, Config, Evaluate, Unwind, to_do}
 use Rattle.seg_exec.specs.inner.steps.Reached.{standing}
 use Rattle.seg_exec.specs.inner.steps.Steps.{executed, is_return}
@@ -10,7 +10,7 @@ use Rattle.seg_exec.specs.inner.strides.Moving.{course}
 use Rattle.seg_exec.proofs.strides.GoingOn.{into, next_is, rest_at}
 use Rattle.seg_exec.proofs.strides.Moving.{then_moves, then_passes}
 use Rattle.seg_exec.proofs.strides.Strides.{may_then}
-use Rattle.seg_exec.proofs.Segments.{if_ok_map}
+use Rattle.seg_meaning.proofs.Results.{if_ok_map}
 use Rattle.seg_exec.proofs.strides.perform.enter_statement.Goals as goal
 
 pub branch-alloc-requires : goal.branch-alloc-requires

@@ -2,49 +2,41 @@ use Rattle.std.proofs.Common.{◌≡◌, Some, [], ap, rules, sym, ◌∙◌}
 use Rattle.twe_program.specs.Statement.{Return, Statement}
 use Rattle.twe_program.specs.inner.StatementView.{statement_of}
 use Rattle.seg_exec.specs.declared.steps.continuation.Goal.TheVariants.{Make}
-use Rattle.seg_exec.specs.Access.{ways_of}
-use Rattle.seg_exec.specs.inner.steps.Continuations.{Choose, Evaluate, Execute, Gather, GiveCell, GiveVar, PrintValue, Turn, Unwind, to_do}
+use Rattle.seg_meaning.specs.Access.{ways_of}
+use Rattle.seg_exec.specs.inner.steps.Continuations.{Choose, Evaluate, Execute, Gather, GiveCell, GiveVar, PrintValue, Unwind, to_do}
 use Rattle.seg_exec.specs.inner.steps.Reached.{standing}
-use Rattle.seg_exec.specs.inner.steps.Steps.{executed, on}
+use Rattle.seg_exec.specs.inner.steps.Steps.{executed}
 use Rattle.seg_exec.specs.inner.steps.Views.{config_of}
 use Rattle.seg_exec.specs.inner.strides.Strides.{doing}
 use Rattle.seg_exec.specs.inner.strides.Moving.{course}
 use Rattle.seg_exec.proofs.strides.Moving.{moves_carried, moves_silent}
 use Rattle.seg_exec.proofs.strides.Performing.{carries_step, may_silent}
-use Rattle.seg_exec.proofs.Segments.{if_ok_map}
+use Rattle.seg_meaning.proofs.Results.{if_ok_map}
 use Rattle.seg_exec.proofs.strides.perform.execute.Goals as goal
 
-pub evaluate_then-requires : goal.evaluate_then-requires
-evaluate_then-requires g c = may_silent c.args.p.now (ways_of g.C.Cells.known g.C.Cells.may_read g.C.Cells.may_write g.C.Cells.rule) (Execute c.args.stmt.now) (config_of c.args.machine.now) (to_do (Evaluate c.in-Let.value) (to_do (GiveVar c.in-Let.var) (config_of c.args.machine.now))) c.args.cells.now c.args.prints.now (ap (λ (s : Statement). executed s (config_of c.args.machine.now)) (sym c.stmt.view_is ∙ ap (λ kind. statement_of c.stmt.inside.point kind) c.in-Let.is)) c.requires
+pub give_var-requires : goal.give_var-requires
+give_var-requires g c = may_silent c.args.p.now (ways_of g.C.Cells.known g.C.Cells.may_read g.C.Cells.may_write g.C.Cells.rule) (Execute c.args.stmt.now) (config_of c.args.machine.now) (to_do (Evaluate c.in-Let.value) (to_do (GiveVar c.in-Let.var) (config_of c.args.machine.now))) c.args.cells.now c.args.prints.now (ap (λ (s : Statement). executed s (config_of c.args.machine.now)) (sym c.stmt.view_is ∙ ap (λ kind. statement_of c.stmt.inside.point kind) c.in-Let.is)) c.requires
 
 pub returns-in-Let : goal.returns-in-Let
 returns-in-Let g c =
-    if_ok_map c.evaluate_then.result (λ onward rest. moves_silent c.args.p.now (ways_of g.C.Cells.known g.C.Cells.may_read g.C.Cells.may_write g.C.Cells.rule) (Execute c.args.stmt.now) (config_of c.args.machine.now) (to_do (Evaluate c.in-Let.value) (to_do (GiveVar c.in-Let.var) (config_of c.args.machine.now))) c.args.cells.now c.args.prints.now (course onward c.evaluate_then.new.machine)
-    (standing c.evaluate_then.new.machine c.evaluate_then.new.cells c.evaluate_then.new.prints) (ap (λ (s : Statement). executed s (config_of c.args.machine.now)) (sym c.stmt.view_is ∙ ap (λ kind. statement_of c.stmt.inside.point kind) c.in-Let.is)) rest) c.evaluate_then.ensures
+    if_ok_map c.give_var.result (λ onward rest. moves_silent c.args.p.now (ways_of g.C.Cells.known g.C.Cells.may_read g.C.Cells.may_write g.C.Cells.rule) (Execute c.args.stmt.now) (config_of c.args.machine.now) (to_do (Evaluate c.in-Let.value) (to_do (GiveVar c.in-Let.var) (config_of c.args.machine.now))) c.args.cells.now c.args.prints.now (course onward c.give_var.new.machine)
+    (standing c.give_var.new.machine c.give_var.new.cells c.give_var.new.prints) (ap (λ (s : Statement). executed s (config_of c.args.machine.now)) (sym c.stmt.view_is ∙ ap (λ kind. statement_of c.stmt.inside.point kind) c.in-Let.is)) rest) c.give_var.ensures
 
-pub evaluate_then-requires-in-Set : goal.evaluate_then-requires-in-Set
-evaluate_then-requires-in-Set g c = may_silent c.args.p.now (ways_of g.C.Cells.known g.C.Cells.may_read g.C.Cells.may_write g.C.Cells.rule) (Execute c.args.stmt.now) (config_of c.args.machine.now) (to_do (Evaluate c.in-Set.value) (to_do (GiveVar c.in-Set.var) (config_of c.args.machine.now))) c.args.cells.now c.args.prints.now (ap (λ (s : Statement). executed s (config_of c.args.machine.now)) (sym c.stmt.view_is ∙ ap (λ kind. statement_of c.stmt.inside.point kind) c.in-Set.is)) c.requires
+pub give_var-requires-in-Set : goal.give_var-requires-in-Set
+give_var-requires-in-Set g c = may_silent c.args.p.now (ways_of g.C.Cells.known g.C.Cells.may_read g.C.Cells.may_write g.C.Cells.rule) (Execute c.args.stmt.now) (config_of c.args.machine.now) (to_do (Evaluate c.in-Set.value) (to_do (GiveVar c.in-Set.var) (config_of c.args.machine.now))) c.args.cells.now c.args.prints.now (ap (λ (s : Statement). executed s (config_of c.args.machine.now)) (sym c.stmt.view_is ∙ ap (λ kind. statement_of c.stmt.inside.point kind) c.in-Set.is)) c.requires
 
 pub returns-in-Set : goal.returns-in-Set
 returns-in-Set g c =
-    if_ok_map c.evaluate_then-in-Set.result (λ onward rest. moves_silent c.args.p.now (ways_of g.C.Cells.known g.C.Cells.may_read g.C.Cells.may_write g.C.Cells.rule) (Execute c.args.stmt.now) (config_of c.args.machine.now) (to_do (Evaluate c.in-Set.value) (to_do (GiveVar c.in-Set.var) (config_of c.args.machine.now))) c.args.cells.now c.args.prints.now (course onward c.evaluate_then-in-Set.new.machine)
-    (standing c.evaluate_then-in-Set.new.machine c.evaluate_then-in-Set.new.cells c.evaluate_then-in-Set.new.prints) (ap (λ (s : Statement). executed s (config_of c.args.machine.now)) (sym c.stmt.view_is ∙ ap (λ kind. statement_of c.stmt.inside.point kind) c.in-Set.is)) rest) c.evaluate_then-in-Set.ensures
+    if_ok_map c.give_var-in-Set.result (λ onward rest. moves_silent c.args.p.now (ways_of g.C.Cells.known g.C.Cells.may_read g.C.Cells.may_write g.C.Cells.rule) (Execute c.args.stmt.now) (config_of c.args.machine.now) (to_do (Evaluate c.in-Set.value) (to_do (GiveVar c.in-Set.var) (config_of c.args.machine.now))) c.args.cells.now c.args.prints.now (course onward c.give_var-in-Set.new.machine)
+    (standing c.give_var-in-Set.new.machine c.give_var-in-Set.new.cells c.give_var-in-Set.new.prints) (ap (λ (s : Statement). executed s (config_of c.args.machine.now)) (sym c.stmt.view_is ∙ ap (λ kind. statement_of c.stmt.inside.point kind) c.in-Set.is)) rest) c.give_var-in-Set.ensures
 
-pub evaluate_then-requires-in-SetCell : goal.evaluate_then-requires-in-SetCell
-evaluate_then-requires-in-SetCell g c = may_silent c.args.p.now (ways_of g.C.Cells.known g.C.Cells.may_read g.C.Cells.may_write g.C.Cells.rule) (Execute c.args.stmt.now) (config_of c.args.machine.now) (to_do (Evaluate c.in-SetCell.value) (to_do (GiveCell c.in-SetCell.cell) (config_of c.args.machine.now))) c.args.cells.now c.args.prints.now (ap (λ (s : Statement). executed s (config_of c.args.machine.now)) (sym c.stmt.view_is ∙ ap (λ kind. statement_of c.stmt.inside.point kind) c.in-SetCell.is)) c.requires
+pub evaluate_then-requires : goal.evaluate_then-requires
+evaluate_then-requires g c = may_silent c.args.p.now (ways_of g.C.Cells.known g.C.Cells.may_read g.C.Cells.may_write g.C.Cells.rule) (Execute c.args.stmt.now) (config_of c.args.machine.now) (to_do (Evaluate c.in-SetCell.value) (to_do (GiveCell c.in-SetCell.cell) (config_of c.args.machine.now))) c.args.cells.now c.args.prints.now (ap (λ (s : Statement). executed s (config_of c.args.machine.now)) (sym c.stmt.view_is ∙ ap (λ kind. statement_of c.stmt.inside.point kind) c.in-SetCell.is)) c.requires
 
 pub returns-in-SetCell : goal.returns-in-SetCell
 returns-in-SetCell g c =
-    if_ok_map c.evaluate_then-in-SetCell.result (λ onward rest. moves_silent c.args.p.now (ways_of g.C.Cells.known g.C.Cells.may_read g.C.Cells.may_write g.C.Cells.rule) (Execute c.args.stmt.now) (config_of c.args.machine.now) (to_do (Evaluate c.in-SetCell.value) (to_do (GiveCell c.in-SetCell.cell) (config_of c.args.machine.now))) c.args.cells.now c.args.prints.now (course onward c.evaluate_then-in-SetCell.new.machine)
-    (standing c.evaluate_then-in-SetCell.new.machine c.evaluate_then-in-SetCell.new.cells c.evaluate_then-in-SetCell.new.prints) (ap (λ (s : Statement). executed s (config_of c.args.machine.now)) (sym c.stmt.view_is ∙ ap (λ kind. statement_of c.stmt.inside.point kind) c.in-SetCell.is)) rest) c.evaluate_then-in-SetCell.ensures
-
-pub evaluate_then-requires-in-While : goal.evaluate_then-requires-in-While
-evaluate_then-requires-in-While g c = may_silent c.args.p.now (ways_of g.C.Cells.known g.C.Cells.may_read g.C.Cells.may_write g.C.Cells.rule) (Execute c.args.stmt.now) (config_of c.args.machine.now) (to_do (Evaluate c.in-While.condition) (to_do (Turn c.args.stmt.now c.in-While.body c.in-While.place) (config_of c.args.machine.now))) c.args.cells.now c.args.prints.now ((ap (λ (s : Statement). executed s (config_of c.args.machine.now)) (sym c.stmt.view_is ∙ ap (λ kind. statement_of c.stmt.inside.point kind) c.in-While.is)) ∙ ap (λ (s : Statement). on (to_do (Evaluate c.in-While.condition) (to_do (Turn s c.in-While.body c.in-While.place) (config_of c.args.machine.now)))) (sym (sym c.stmt.view_is ∙ ap (λ kind. statement_of c.stmt.inside.point kind) c.in-While.is))) c.requires
-
-pub returns-in-While : goal.returns-in-While
-returns-in-While g c =
-    if_ok_map c.evaluate_then-in-While.result (λ onward rest. moves_silent c.args.p.now (ways_of g.C.Cells.known g.C.Cells.may_read g.C.Cells.may_write g.C.Cells.rule) (Execute c.args.stmt.now) (config_of c.args.machine.now) (to_do (Evaluate c.in-While.condition) (to_do (Turn c.args.stmt.now c.in-While.body c.in-While.place) (config_of c.args.machine.now))) c.args.cells.now c.args.prints.now (course onward c.evaluate_then-in-While.new.machine)
-    (standing c.evaluate_then-in-While.new.machine c.evaluate_then-in-While.new.cells c.evaluate_then-in-While.new.prints) ((ap (λ (s : Statement). executed s (config_of c.args.machine.now)) (sym c.stmt.view_is ∙ ap (λ kind. statement_of c.stmt.inside.point kind) c.in-While.is)) ∙ ap (λ (s : Statement). on (to_do (Evaluate c.in-While.condition) (to_do (Turn s c.in-While.body c.in-While.place) (config_of c.args.machine.now)))) (sym (sym c.stmt.view_is ∙ ap (λ kind. statement_of c.stmt.inside.point kind) c.in-While.is))) rest) c.evaluate_then-in-While.ensures
+    if_ok_map c.evaluate_then.result (λ onward rest. moves_silent c.args.p.now (ways_of g.C.Cells.known g.C.Cells.may_read g.C.Cells.may_write g.C.Cells.rule) (Execute c.args.stmt.now) (config_of c.args.machine.now) (to_do (Evaluate c.in-SetCell.value) (to_do (GiveCell c.in-SetCell.cell) (config_of c.args.machine.now))) c.args.cells.now c.args.prints.now (course onward c.evaluate_then.new.machine)
+    (standing c.evaluate_then.new.machine c.evaluate_then.new.cells c.evaluate_then.new.prints) (ap (λ (s : Statement). executed s (config_of c.args.machine.now)) (sym c.stmt.view_is ∙ ap (λ kind. statement_of c.stmt.inside.point kind) c.in-SetCell.is)) rest) c.evaluate_then.ensures
 
 pub evaluate_then-requires-in-Print : goal.evaluate_then-requires-in-Print
 evaluate_then-requires-in-Print g c = may_silent c.args.p.now (ways_of g.C.Cells.known g.C.Cells.may_read g.C.Cells.may_write g.C.Cells.rule) (Execute c.args.stmt.now) (config_of c.args.machine.now) (to_do (Evaluate c.in-Print.value) (to_do (PrintValue c.in-Print.place) (config_of c.args.machine.now))) c.args.cells.now c.args.prints.now (ap (λ (s : Statement). executed s (config_of c.args.machine.now)) (sym c.stmt.view_is ∙ ap (λ kind. statement_of c.stmt.inside.point kind) c.in-Print.is)) c.requires

@@ -1,7 +1,7 @@
 use Rattle.std.proofs.Common.{sym, subst}
 use Rattle.seg_exec.specs.declared.steps.continuation.Continuation.{Continuation as Held}
 use Rattle.seg_exec.specs.declared.steps.continuation.Continuation.TheVariants as held
-use Rattle.seg_exec.specs.Access.{ways_of}
+use Rattle.seg_meaning.specs.Access.{ways_of}
 use Rattle.seg_exec.specs.inner.steps.Bodies.{last_of}
 use Rattle.seg_exec.specs.inner.steps.Continuations.{Leave, Suspend}
 use Rattle.seg_exec.specs.inner.steps.Reached.{MayRequest, standing, standing_with}
@@ -11,7 +11,7 @@ use Rattle.seg_exec.specs.inner.strides.Moving.{Moves, course}
 use Rattle.seg_exec.specs.inner.strides.Strides.{doing}
 use Rattle.seg_exec.proofs.strides.Moving.{moves_carried}
 use Rattle.seg_exec.proofs.strides.Performing.{carries_step, placed}
-use Rattle.seg_exec.proofs.Segments.{if_ok_map}
+use Rattle.seg_meaning.proofs.Results.{if_ok_map}
 use Rattle.seg_exec.proofs.strides.perform.perform.Goals as goal
 
 pub returns-in_ok-request-in-Suspend : goal.returns-in_ok-request-in-Suspend

@@ -1,7 +1,7 @@
 use Rattle.std.proofs.Common.{◌≡◌, ◌≤◌, true, false, length, SFits, w32, arith, rules}
 use Rattle.std.proofs.lemmas.List.{drop_all}
-use Rattle.seg_exec.specs.Access.{ways_of}
-use Rattle.seg_exec.specs.Arithmetic.{is_true}
+use Rattle.seg_meaning.specs.Access.{ways_of}
+use Rattle.seg_meaning.specs.Arithmetic.{is_true}
 use Rattle.seg_exec.proofs.strides.GoingOn.{next_is}
 use Rattle.seg_exec.proofs.strides.Picking.{condition_false, condition_fault, condition_may, condition_true, last_chosen, none_chosen, none_tried}
 use Rattle.seg_exec.proofs.strides.pick.pick.Goals as goal

@@ -1,5 +1,5 @@
 use Rattle.std.proofs.Common.{length, ◌-◌}
-use Rattle.seg_exec.specs.Access.{ways_of}
+use Rattle.seg_meaning.specs.Access.{ways_of}
 use Rattle.seg_exec.specs.inner.strides.Picking.{ComesTo}
 use Rattle.seg_exec.proofs.strides.pick.pick.Given as goal
 

@@ -1,8 +1,8 @@
 use Rattle.std.proofs.Common.{◌≡◌, None, Some, SFits, w32, of_z, to_z, ap, rules, ◌∙◌}
 use Rattle.std.proofs.lemmas.Int.{to_z-of_z}
 use Rattle.twe_base.specs.Stacks.{below}
-use Rattle.seg_exec.specs.Access.{ways_of}
-use Rattle.seg_exec.specs.Arithmetic.{operated}
+use Rattle.seg_meaning.specs.Access.{ways_of}
+use Rattle.seg_meaning.specs.Arithmetic.{operated}
 use Rattle.seg_exec.specs.inner.steps.Continuations.{Apply, Unwind, to_do, top, with_operand, without_operand}
 use Rattle.seg_exec.specs.inner.steps.Reached.{standing}
 use Rattle.seg_exec.specs.inner.steps.Views.{config_of}
@@ -10,7 +10,7 @@ use Rattle.seg_exec.specs.inner.strides.Moving.{course}
 use Rattle.seg_exec.proofs.strides.Applying.{has_value, no_value}
 use Rattle.seg_exec.proofs.strides.Moving.{moves_silent}
 use Rattle.seg_exec.proofs.strides.Performing.{may_silent}
-use Rattle.seg_exec.proofs.Segments.{if_ok_map}
+use Rattle.seg_meaning.proofs.Results.{if_ok_map}
 use Rattle.seg_exec.proofs.strides.return_value.apply_then_return.Goals as goal
 
 pub leave_with-requires : goal.leave_with-requires

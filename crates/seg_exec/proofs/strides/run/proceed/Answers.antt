@@ -1,6 +1,6 @@
 use Rattle.std.proofs.Common.{List, [], ap, sym, ◌∙◌}
 use Rattle.seg_exec.specs.declared.steps.continuation.Continuation.{Continuation as Held}
-use Rattle.seg_exec.specs.Access.{ways_of}
+use Rattle.seg_meaning.specs.Access.{ways_of}
 use Rattle.seg_exec.specs.inner.steps.Calls.{calls_of}
 use Rattle.seg_exec.specs.inner.steps.Views.{config_of, continuations_of}
 use Rattle.seg_exec.proofs.strides.Performing.{returns_nothing}

@@ -1,4 +1,4 @@
-use Rattle.seg_exec.specs.Access.{ways_of}
+use Rattle.seg_meaning.specs.Access.{ways_of}
 use Rattle.seg_exec.specs.inner.steps.Reached.{standing}
 use Rattle.seg_exec.proofs.steps.Reaching.{reaches_none}
 use Rattle.seg_exec.proofs.strides.run.run.Goals as goal

@@ -1,6 +1,6 @@
 use Rattle.std.proofs.Common.{◌+◌, ◌≤◌, cond}
 use Rattle.std.specs.Prelude.{nat_eq}
-use Rattle.seg_exec.specs.Access.{ways_of}
+use Rattle.seg_meaning.specs.Access.{ways_of}
 use Rattle.seg_exec.specs.inner.steps.Reached.{Reaches, standing}
 use Rattle.seg_exec.specs.inner.steps.Sizes.{size_of_work}
 use Rattle.seg_exec.specs.inner.strides.Moving.{ahead, course}

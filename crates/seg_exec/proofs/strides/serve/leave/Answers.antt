@@ -1,5 +1,5 @@
 use Rattle.std.proofs.Common.{◌≡◌, ◌∙◌, rules}
-use Rattle.seg_exec.specs.Access.{ways_of}
+use Rattle.seg_meaning.specs.Access.{ways_of}
 use Rattle.seg_exec.specs.inner.steps.Reached.{standing}
 use Rattle.seg_exec.specs.inner.steps.Steps.{returned}
 use Rattle.seg_exec.specs.inner.steps.Views.{config_of}
@@ -8,7 +8,7 @@ use Rattle.seg_exec.specs.inner.strides.Strides.{doing}
 use Rattle.seg_exec.specs.inner.strides.Moving.{course}
 use Rattle.seg_exec.proofs.strides.Moving.{moves_carried}
 use Rattle.seg_exec.proofs.strides.Returning.{carries_return, may_return, returned_top}
-use Rattle.seg_exec.proofs.Segments.{if_ok_map}
+use Rattle.seg_meaning.proofs.Results.{if_ok_map}
 use Rattle.seg_exec.proofs.strides.serve.leave.Goals as goal
 
 pub serve-requires : goal.serve-requires

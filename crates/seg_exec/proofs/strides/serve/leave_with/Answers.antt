@@ -1,6 +1,6 @@
 use Rattle.std.proofs.Common.{◌≡◌, ℤ, SFits, w32, ap, ◌∙◌, rules}
 use Rattle.std.proofs.lemmas.Int.{to_z-of_z}
-use Rattle.seg_exec.specs.Access.{ways_of}
+use Rattle.seg_meaning.specs.Access.{ways_of}
 use Rattle.seg_exec.specs.inner.steps.Reached.{standing}
 use Rattle.seg_exec.specs.inner.steps.Steps.{returned}
 use Rattle.seg_exec.specs.inner.steps.Views.{config_of}
@@ -9,7 +9,7 @@ use Rattle.seg_exec.specs.inner.strides.Strides.{doing, holding}
 use Rattle.seg_exec.specs.inner.strides.Moving.{course}
 use Rattle.seg_exec.proofs.strides.Moving.{moves_carried}
 use Rattle.seg_exec.proofs.strides.Returning.{carries_return, may_return}
-use Rattle.seg_exec.proofs.Segments.{if_ok_map}
+use Rattle.seg_meaning.proofs.Results.{if_ok_map}
 use Rattle.seg_exec.proofs.strides.serve.leave_with.Goals as goal
 
 pub serve-requires : goal.serve-requires

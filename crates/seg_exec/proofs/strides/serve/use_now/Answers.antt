@@ -1,11 +1,11 @@
-use Rattle.seg_exec.specs.Access.{ways_of}
+use Rattle.seg_meaning.specs.Access.{ways_of}
 use Rattle.seg_exec.specs.inner.steps.Reached.{standing}
 use Rattle.seg_exec.specs.inner.steps.Views.{config_of, use_of}
 use Rattle.seg_exec.specs.inner.strides.Strides.{doing}
 use Rattle.seg_exec.specs.inner.strides.Moving.{course}
 use Rattle.seg_exec.proofs.strides.Moving.{moves_carried}
 use Rattle.seg_exec.proofs.strides.Performing.{carries_step, may_request}
-use Rattle.seg_exec.proofs.Segments.{if_ok_map}
+use Rattle.seg_meaning.proofs.Results.{if_ok_map}
 use Rattle.seg_exec.proofs.strides.serve.use_now.Goals as goal
 
 pub serve-requires : goal.serve-requires

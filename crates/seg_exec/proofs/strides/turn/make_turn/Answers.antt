@@ -4,8 +4,8 @@ use Rattle.std.specs.Prelude.{nat_eq}
 use Rattle.twe_program.specs.Statement.{statements_of}
 use Rattle.seg_exec.specs.declared.steps.machine.Machine.{Machine}
 use Rattle.seg_exec.specs.declared.steps.request.Ending.{Ending}
-use Rattle.seg_exec.specs.Access.{ways_of}
-use Rattle.seg_exec.specs.Arithmetic.{is_true}
+use Rattle.seg_meaning.specs.Access.{ways_of}
+use Rattle.seg_meaning.specs.Arithmetic.{is_true}
 use Rattle.seg_exec.specs.inner.steps.Continuations.{Config, Execute, Turn, to_do}
 use Rattle.seg_exec.specs.inner.steps.Reached.{standing}
 use Rattle.seg_exec.specs.inner.steps.Views.{config_of}

@@ -3,12 +3,12 @@ use Rattle.std.proofs.lemmas.Int.{to_z-of_z}
 use Rattle.std.specs.Prelude.{slice_get}
 use Rattle.twe_program.specs.Expression.{ArrayElement, Binary, CellValue, GridElement, Literal, Negation, Negative, Truth, Variable}
 use Rattle.twe_program.specs.inner.ExpressionView.{expression_of}
-use Rattle.seg_exec.specs.Access.{HasRead, value_in, ways_of}
-use Rattle.seg_exec.specs.Arithmetic.{decided, is_true, negation, negative, number_of, operated}
-use Rattle.seg_exec.specs.Cells.{element_number, grid_element_number}
+use Rattle.seg_meaning.specs.Access.{HasRead, value_in, ways_of}
+use Rattle.seg_meaning.specs.Arithmetic.{decided, is_true, negation, negative, number_of, operated}
+use Rattle.seg_meaning.specs.Cells.{element_number, grid_element_number}
 use Rattle.seg_exec.specs.inner.strides.Leaves.{leaf_value, pair_value}
 use Rattle.twe_program.specs.Expression.{is_plain}
-use Rattle.seg_exec.specs.declared.fault.FaultCause.TheVariants.{Index, GridIndex}
+use Rattle.seg_meaning.specs.declared.fault.FaultCause.TheVariants.{Index, GridIndex}
 use Rattle.seg_exec.specs.inner.strides.Strides.{MayReadAt, ReadsAt, quotient_or}
 use Rattle.seg_exec.proofs.strides.Evaluating.{both_first, both_second, cell_may, cell_read, column_fault, column_may, element_fault, element_may, element_may_read, element_read, evaluates_as, grid_may_read, grid_read, leaf, left_decides, left_fault, left_may, literal, may_as, negation_fault, negation_may, negation_value, negative_fault, negative_may, negative_value, operator_value, pair, passed_on, plain_as, right_fault, right_may, row_fault, row_may, truth, variable}
 use Rattle.seg_exec.proofs.strides.value.+value.Goals as goal

@@ -3,8 +3,8 @@ use Rattle.seg_journal.specs.declared.journal.End.{End}
 use Rattle.twe_base.specs.Limits.{Bounds, IsWithin}
 use Rattle.twe_program.specs.Program.{Program}
 use Rattle.twe_program.specs.WellFormed.{IsWellFormed}
-use Rattle.twe_machine.specs.declared.state.State.{State}
-use Rattle.twe_machine.specs.Legal.{MayMove}
+use Rattle.machine_state.specs.declared.state.State.{State}
+use Rattle.machine_state.specs.Legal.{MayMove}
 use Rattle.twe_machine.proofs.listing.Listed.{was_listed}
 use Rattle.span_profile.specs.inner.Sets.{no_cells}
 use Rattle.span_profile.proofs.Tracking.{has_room, mover_row, noted, tracked_on}

@@ -1,5 +1,5 @@
 use Rattle.std.proofs.Common.{Option, sym, ap, ◌∙◌}
-use Rattle.twe_machine.specs.declared.state.TaskRow.{TaskRow}
+use Rattle.machine_state.specs.declared.state.TaskRow.{TaskRow}
 use Rattle.task_floor.specs.Committing.{left_to_place, with_made}
 use Rattle.task_floor.proofs.Bringing.{brings_none, brings_one}
 use Rattle.task_floor.proofs.floor.Floor.bring.Goals as goal

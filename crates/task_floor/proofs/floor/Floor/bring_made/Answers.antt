@@ -1,5 +1,5 @@
 use Rattle.std.proofs.Common.{sym, ◌∙◌}
-use Rattle.floor_rule.specs.Steps.{first_turn}
+use Rattle.floor_laws.specs.rule.Steps.{first_turn}
 use Rattle.task_floor.proofs.Bringing.{below_made, given_made, kept_made, may_give_new, none_to_place, slots_made, some_to_place}
 use Rattle.task_floor.proofs.floor.Floor.bring_made.Goals as goal
 

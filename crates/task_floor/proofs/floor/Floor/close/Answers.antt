@@ -1,5 +1,5 @@
 use Rattle.core.specs.Mem.Slots.{slots_items}
-use Rattle.floor_table.proofs.nodes.Closings.{closed_shows}
+use Rattle.floor_laws.proofs.table.nodes.Closings.{closed_shows}
 use Rattle.task_floor.proofs.floor.Floor.close.Goals as goal
 
 pub returns-clause-ended : goal.returns-clause-ended

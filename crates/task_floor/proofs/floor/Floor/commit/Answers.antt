@@ -1,18 +1,18 @@
 use Rattle.std.proofs.Common.{◌≡◌, ◌+◌, ℕ, sym, ap, subst, ◌∙◌}
 use Rattle.std.specs.Prelude.{option_map}
 use Rattle.twe_base.specs.Limits.{Bounds}
-use Rattle.seg_exec.specs.declared.frame.Frame.{Frame}
-use Rattle.seg_exec.specs.Segment.{HasRoomToSpawn}
-use Rattle.twe_machine.specs.Moves.{frame_without_prints}
+use Rattle.seg_meaning.specs.declared.frame.Frame.{Frame}
+use Rattle.seg_meaning.specs.Segment.{HasRoomToSpawn}
+use Rattle.machine_state.specs.Moves.{frame_without_prints}
 use Rattle.seg_journal.specs.declared.numbered.NumberedEntry.{NumberedEntry}
-use Rattle.floor_rule.specs.Rows.{slot_of}
-use Rattle.floor_rule.specs.Steps.{end_after}
-use Rattle.floor_table.specs.Layout.{asked_of_clock}
+use Rattle.floor_laws.specs.rule.Rows.{slot_of}
+use Rattle.floor_laws.specs.rule.Steps.{end_after}
+use Rattle.floor_laws.specs.table.Layout.{asked_of_clock}
 use Rattle.task_floor.specs.steps.Committing.{child_row, with_entry}
 use Rattle.task_floor.specs.steps.inner.Bringing.{frame_after}
 use Rattle.task_floor.proofs.steps.CommittedEntries.{entry_is, room_kept, slot_after}
-use Rattle.floor_table.specs.nodes.FloorSeats.{HasTaskSlots}
-use Rattle.floor_table.specs.nodes.Seats.{TreeSeat}
+use Rattle.floor_laws.specs.table.nodes.FloorSeats.{HasTaskSlots}
+use Rattle.floor_laws.specs.table.nodes.Seats.{TreeSeat}
 use Rattle.task_floor.specs.Committing.{with_made}
 use Rattle.task_floor.specs.inner.Bringing.{MayBringBeside}
 use Rattle.task_floor.proofs.DrawnBeside.{child_is_below, drawn, drawn_live, had_none_next, may_bring_beside, row, with_made_slots}

@@ -2,10 +2,10 @@ use Rattle.std.proofs.Common.{◌+◌, ℕ, arith, sym, subst}
 use Rattle.std.proofs.lemmas.Bool.{eqb-true}
 use mathlib.Core.Option.{none}
 use Rattle.atomic_table.specs.Table.{Allows, step}
-use Rattle.floor_table.specs.nodes.Deciders.{LooksUpDecider}
-use Rattle.floor_table.specs.nodes.Holds.{TreeKeeps}
-use Rattle.floor_table.specs.nodes.Layout.{decider_place, tree_slot_count}
-use Rattle.floor_table.proofs.nodes.Deciding.{look_up}
+use Rattle.floor_laws.specs.table.nodes.Deciders.{LooksUpDecider}
+use Rattle.floor_laws.specs.table.nodes.Holds.{TreeKeeps}
+use Rattle.floor_laws.specs.table.nodes.Layout.{decider_place, tree_slot_count}
+use Rattle.floor_laws.proofs.table.nodes.Deciding.{look_up}
 use Rattle.task_floor.proofs.floor.Floor.decides.Goals as goal
 
 pub load-found-requires : goal.load-found-requires

@@ -1,12 +1,12 @@
 use Rattle.std.proofs.Common.{ℕ, ◌+◌, ◌%◌, arith, sym, subst}
 use Rattle.std.specs.Prelude.{◌^◌}
 use Rattle.atomic_table.specs.Table.{Allows}
-use Rattle.floor_table.specs.Layout.{clock_place}
-use Rattle.floor_table.specs.Tells.{clock_step}
-use Rattle.floor_table.specs.nodes.EntrySeats.{DrewTreeEntry}
-use Rattle.floor_table.specs.nodes.Holds.{TreeKeeps}
-use Rattle.floor_table.specs.nodes.Layout.{tree_slot_count}
-use Rattle.floor_table.proofs.nodes.Entries.{draw_tree_entry}
+use Rattle.floor_laws.specs.table.Layout.{clock_place}
+use Rattle.floor_laws.specs.table.Tells.{clock_step}
+use Rattle.floor_laws.specs.table.nodes.EntrySeats.{DrewTreeEntry}
+use Rattle.floor_laws.specs.table.nodes.Holds.{TreeKeeps}
+use Rattle.floor_laws.specs.table.nodes.Layout.{tree_slot_count}
+use Rattle.floor_laws.proofs.table.nodes.Entries.{draw_tree_entry}
 use Rattle.task_floor.proofs.floor.Floor.draw.Goals as goal
 
 pub fetch_add-requires : goal.fetch_add-requires

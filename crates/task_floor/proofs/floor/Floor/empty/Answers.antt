@@ -1,6 +1,6 @@
 use Rattle.std.proofs.Common.{◌≡◌, ◌++◌, ℕ, List, map, take, ap, ◌∙◌}
 use Rattle.core.specs.Mem.Slots.{slots_items}
-use Rattle.floor_rule.specs.declared.view.TaskSlot.{TaskSlot}
+use Rattle.floor_laws.specs.declared.rule.view.TaskSlot.{TaskSlot}
 use Rattle.task_floor.specs.inner.Emptying.{task_in}
 use Rattle.task_floor.specs.steps.inner.Reading.{held_in}
 use Rattle.task_floor.proofs.Emptied.{emptied_shows}

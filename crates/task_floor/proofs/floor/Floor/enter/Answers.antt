@@ -1,8 +1,8 @@
 -- A try that missed changed nothing.
 use Rattle.std.proofs.Common.{sym, subst}
 use mathlib.Core.Option.{some}
-use Rattle.floor_table.specs.declared.nodes.slot.TreeSlot.TheVariants as kinds
-use Rattle.floor_table.specs.nodes.Seats.{MayLock, TookNode, TreeSeat}
+use Rattle.floor_laws.specs.declared.table.nodes.slot.TreeSlot.TheVariants as kinds
+use Rattle.floor_laws.specs.table.nodes.Seats.{MayLock, TookNode, TreeSeat}
 use Rattle.task_floor.proofs.floor.Floor.enter.Goals as goal
 
 pub returns-clause-locked : goal.returns-clause-locked

@@ -1,4 +1,4 @@
-use Rattle.floor_table.specs.declared.nodes.slot.TreeSlot.TheVariants as kinds
+use Rattle.floor_laws.specs.declared.table.nodes.slot.TreeSlot.TheVariants as kinds
 use Rattle.task_floor.specs.Contents.{nothing}
 use Rattle.task_floor.proofs.Givings.{exchanged, out_is}
 use Rattle.task_floor.proofs.floor.Floor.give_content.Goals as goal

@@ -1,15 +1,15 @@
 use Rattle.std.proofs.Common.{◌≢◌, ℕ, List, ◌∷◌, None, arith, sym, ap, subst, ◌∙◌}
 use mathlib.Core.Option.{none}
 use Rattle.atomic_table.specs.Table.{Allows, rest, step}
-use Rattle.floor_table.specs.declared.view.SeatKind.TheVariants.{Spent}
-use Rattle.floor_table.specs.Layout.{free_word, turn_place}
-use Rattle.floor_table.specs.declared.nodes.slot.TreeSlot.{TreeSlot}
-use Rattle.floor_table.specs.declared.nodes.slot.TreeSlot.TheVariants as kinds
-use Rattle.floor_table.specs.nodes.Holds.{TreeKeeps}
-use Rattle.floor_table.specs.nodes.Layout.{tree_slot_count}
-use Rattle.floor_table.specs.nodes.Seats.{TreeSeat}
-use Rattle.floor_table.specs.nodes.TurnSeats.{GivesTreeTurn, given_tree_view}
-use Rattle.floor_table.proofs.nodes.Gives.{give_tree_turn}
+use Rattle.floor_laws.specs.declared.table.view.SeatKind.TheVariants.{Spent}
+use Rattle.floor_laws.specs.table.Layout.{free_word, turn_place}
+use Rattle.floor_laws.specs.declared.table.nodes.slot.TreeSlot.{TreeSlot}
+use Rattle.floor_laws.specs.declared.table.nodes.slot.TreeSlot.TheVariants as kinds
+use Rattle.floor_laws.specs.table.nodes.Holds.{TreeKeeps}
+use Rattle.floor_laws.specs.table.nodes.Layout.{tree_slot_count}
+use Rattle.floor_laws.specs.table.nodes.Seats.{TreeSeat}
+use Rattle.floor_laws.specs.table.nodes.TurnSeats.{GivesTreeTurn, given_tree_view}
+use Rattle.floor_laws.proofs.table.nodes.Gives.{give_tree_turn}
 use Rattle.task_floor.proofs.Taking.{has_full, may_give_tree}
 use Rattle.task_floor.proofs.floor.Floor.give_turn.Goals as goal
 

@@ -1,7 +1,7 @@
 -- A try that missed changed nothing.
 use Rattle.std.proofs.Common.{sym, subst}
 use mathlib.Core.Option.{none}
-use Rattle.floor_table.specs.nodes.Seats.{MayLock, TookNode, TreeSeat}
+use Rattle.floor_laws.specs.table.nodes.Seats.{MayLock, TookNode, TreeSeat}
 use Rattle.task_floor.proofs.floor.Floor.go_down.Goals as goal
 
 pub returns-clause-locked : goal.returns-clause-locked

@@ -3,10 +3,10 @@ use Rattle.std.specs.Prelude.{◌==◌}
 use mathlib.Core.Option.{none}
 use prog.Atomic.{either}
 use Rattle.atomic_table.specs.Table.{Allows, step}
-use Rattle.floor_table.specs.nodes.Holds.{TreeKeeps}
-use Rattle.floor_table.specs.nodes.Layout.{lock_place, taken_lock, tree_slot_count}
-use Rattle.floor_table.specs.nodes.Plays.{TriesNode}
-use Rattle.floor_table.proofs.nodes.Calls.{try_lock}
+use Rattle.floor_laws.specs.table.nodes.Holds.{TreeKeeps}
+use Rattle.floor_laws.specs.table.nodes.Layout.{lock_place, taken_lock, tree_slot_count}
+use Rattle.floor_laws.specs.table.nodes.Plays.{TriesNode}
+use Rattle.floor_laws.proofs.table.nodes.Calls.{try_lock}
 use Rattle.task_floor.proofs.Tries.{missed_is, took_is}
 use Rattle.task_floor.proofs.floor.Floor.go_down_from.Goals as goal
 

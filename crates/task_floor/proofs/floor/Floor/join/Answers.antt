@@ -1,5 +1,5 @@
 use Rattle.std.proofs.Common.{arith}
-use Rattle.floor_table.proofs.nodes.Joins.{join_tree}
+use Rattle.floor_laws.proofs.table.nodes.Joins.{join_tree}
 use Rattle.task_floor.proofs.floor.Floor.join.Goals as goal
 
 pub join_seat-requires : goal.join_seat-requires

@@ -1,12 +1,12 @@
 use Rattle.std.proofs.Common.{ℕ, arith, sym, subst, Some}
 use mathlib.Core.Option.{none}
 use Rattle.atomic_table.specs.Table.{Allows, step}
-use Rattle.floor_table.specs.nodes.Holds.{TreeKeeps}
-use Rattle.floor_table.specs.nodes.Layout.{left_lock, lock_place, tree_slot_count}
-use Rattle.floor_table.specs.nodes.Plays.{SeatGoesOn}
-use Rattle.floor_table.specs.nodes.Seats.{MayGoOn}
-use Rattle.floor_table.specs.declared.nodes.view.TreeView.{TreeView}
-use Rattle.floor_table.proofs.nodes.Calls.{go_on}
+use Rattle.floor_laws.specs.table.nodes.Holds.{TreeKeeps}
+use Rattle.floor_laws.specs.table.nodes.Layout.{left_lock, lock_place, tree_slot_count}
+use Rattle.floor_laws.specs.table.nodes.Plays.{SeatGoesOn}
+use Rattle.floor_laws.specs.table.nodes.Seats.{MayGoOn}
+use Rattle.floor_laws.specs.declared.table.nodes.view.TreeView.{TreeView}
+use Rattle.floor_laws.proofs.table.nodes.Calls.{go_on}
 use Rattle.task_floor.proofs.Givings.{gave_from, has_content, same_view}
 use Rattle.task_floor.proofs.floor.Floor.leave.Goals as goal
 

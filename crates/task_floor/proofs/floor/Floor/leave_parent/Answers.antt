@@ -1,6 +1,6 @@
 use Rattle.std.proofs.Common.{◌≡◌, ◌++◌, [], ◌∷◌, length, Some, sym, ap, subst, ◌∙◌}
-use Rattle.floor_table.specs.nodes.Seats.{MayGoOn, TreeSeat, unlocked_view}
-use Rattle.floor_table.specs.declared.nodes.view.TreeView.{TreeView}
+use Rattle.floor_laws.specs.table.nodes.Seats.{MayGoOn, TreeSeat, unlocked_view}
+use Rattle.floor_laws.specs.declared.table.nodes.view.TreeView.{TreeView}
 use Rattle.task_floor.proofs.Givings.{same_behind, turned_hand}
 use Rattle.task_floor.proofs.floor.Floor.leave_parent.Goals as goal
 

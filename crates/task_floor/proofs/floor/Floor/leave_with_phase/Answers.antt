@@ -1,8 +1,8 @@
 use Rattle.std.proofs.Common.{sym, ap, ◌∙◌}
-use Rattle.floor_rule.specs.declared.view.HeldTurn.{HeldTurn}
-use Rattle.floor_table.specs.Tells.{Seat}
+use Rattle.floor_laws.specs.declared.rule.view.HeldTurn.{HeldTurn}
+use Rattle.floor_laws.specs.table.Tells.{Seat}
 use Rattle.task_floor.proofs.steps.LeavingTurns.{may_store}
-use Rattle.floor_table.specs.nodes.FloorSeats.{floor_seat, tasks_out}
+use Rattle.floor_laws.specs.table.nodes.FloorSeats.{floor_seat, tasks_out}
 use Rattle.task_floor.proofs.LeavingTasks.{has_left_task, may_give_stored}
 use Rattle.task_floor.proofs.floor.Floor.leave_with_phase.Goals as goal
 

@@ -2,14 +2,14 @@ use Rattle.std.proofs.Common.{◌≡◌, ℕ, ℤ, arith, sym, ap, subst, ◌∙
 use Rattle.std.proofs.lemmas.Int.{ints, to_z-of_z}
 use mathlib.Core.Option.{none}
 use Rattle.atomic_table.specs.Table.{Allows, step}
-use Rattle.floor_rule.specs.declared.view.Touch.TheVariants.{Read}
-use Rattle.floor_table.specs.Layout.{cell_place}
-use Rattle.floor_table.specs.Plays.{LoadsCell}
-use Rattle.floor_table.specs.Tells.{IsLastTouch, Seat, with_touch}
-use Rattle.floor_table.specs.nodes.FloorSeats.{LoadsTreeCell, floor_seat}
-use Rattle.floor_table.specs.nodes.Holds.{TreeKeeps}
-use Rattle.floor_table.specs.nodes.Layout.{tree_slot_count}
-use Rattle.floor_table.proofs.nodes.FloorCalls.{load_cell}
+use Rattle.floor_laws.specs.declared.rule.view.Touch.TheVariants.{Read}
+use Rattle.floor_laws.specs.table.Layout.{cell_place}
+use Rattle.floor_laws.specs.table.Plays.{LoadsCell}
+use Rattle.floor_laws.specs.table.Tells.{IsLastTouch, Seat, with_touch}
+use Rattle.floor_laws.specs.table.nodes.FloorSeats.{LoadsTreeCell, floor_seat}
+use Rattle.floor_laws.specs.table.nodes.Holds.{TreeKeeps}
+use Rattle.floor_laws.specs.table.nodes.Layout.{tree_slot_count}
+use Rattle.floor_laws.proofs.table.nodes.FloorCalls.{load_cell}
 use Rattle.task_floor.proofs.Told.{stays, told}
 use Rattle.task_floor.proofs.floor.Floor.load.Goals as goal
 

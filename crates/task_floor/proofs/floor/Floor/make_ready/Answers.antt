@@ -1,11 +1,11 @@
 use Rattle.std.proofs.Common.{◌∙◌, inl, inr, sym}
-use Rattle.floor_table.specs.Layout.{word_of_phase}
+use Rattle.floor_laws.specs.table.Layout.{word_of_phase}
 use Rattle.task_floor.proofs.steps.InHand.{may_run}
-use Rattle.floor_table.specs.nodes.FloorSeats.{floor_seat}
+use Rattle.floor_laws.specs.table.nodes.FloorSeats.{floor_seat}
 use Rattle.task_floor.proofs.Alone.{undone_since}
 use Rattle.task_floor.proofs.GoingOn.{looked_above, looked_enough, looked_in_hand, looked_moves, looked_phase, same_enough, then_moves, was_in_hand}
 use Rattle.task_floor.proofs.Looking.{has_looked}
-use Rattle.task_floor.proofs.Valuing.{look_live, look_slots, look_worker, looked_rest, not_had_since}
+use Rattle.task_floor.proofs.Valuing.{left_looked, look_live, look_slots, look_worker, looked_rest, not_had_since}
 use Rattle.task_floor.proofs.floor.Floor.make_ready.Goals as goal
 
 pub resume-requires-clause-live : goal.resume-requires-clause-live
@@ -131,3 +131,7 @@ returns-in-Waits-clause-alone g c on is =
 
 pub returns-in-Waits-clause-above : goal.returns-in-Waits-clause-above
 returns-in-Waits-clause-above g c on is = c.resume.ensures.above on is
+
+pub returns-in-Waits-clause-left : goal.returns-in-Waits-clause-left
+returns-in-Waits-clause-left g c on is =
+    left_looked g.N.Named.lim c.args.stand.now.me c.status.new.stand.me c.resume.new.stand.me.0 on c.args.task (word_of_phase c.status.result) c.status.ensures.found (c.resume.ensures.left on is)

@@ -1,10 +1,10 @@
 use Rattle.std.proofs.Common.{◌≡◌, ◌+◌, ℕ, arith, sym, ap, subst, ◌∙◌}
 use mathlib.Core.Option.{none}
 use Rattle.atomic_table.specs.Table.{Allows, step}
-use Rattle.floor_table.specs.nodes.Holds.{TreeKeeps}
-use Rattle.floor_table.specs.nodes.Layout.{lock_place, taken_lock, tree_slot_count}
-use Rattle.floor_table.specs.nodes.RecordSeats.{MarksClear}
-use Rattle.floor_table.proofs.nodes.MarkCalls as calls
+use Rattle.floor_laws.specs.table.nodes.Holds.{TreeKeeps}
+use Rattle.floor_laws.specs.table.nodes.Layout.{lock_place, taken_lock, tree_slot_count}
+use Rattle.floor_laws.specs.table.nodes.RecordSeats.{MarksClear}
+use Rattle.floor_laws.proofs.table.nodes.MarkCalls as calls
 use Rattle.task_floor.proofs.floor.Floor.mark_clear.Goals as goal
 
 pub store-requires : goal.store-requires

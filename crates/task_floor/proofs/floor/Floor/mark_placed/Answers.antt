@@ -1,8 +1,8 @@
 use Rattle.std.proofs.Common.{◌≡◌, ℕ, Bool, true, false, List, IsFalse, IsTrue, arith, refl, sym, ap, inl, inr, ◌∙◌}
-use Rattle.admission_laws.specs.admission_core.States.{Record}
-use Rattle.floor_table.specs.declared.nodes.view.TreeView.{TreeView}
-use Rattle.floor_table.specs.nodes.Deciders.{AllWaitFor, MayDecide}
-use Rattle.floor_table.specs.nodes.Layout.{decider_at, no_decider}
+use Rattle.floor_laws.specs.admission.admission_core.States.{Record}
+use Rattle.floor_laws.specs.declared.table.nodes.view.TreeView.{TreeView}
+use Rattle.floor_laws.specs.table.nodes.Deciders.{AllWaitFor, MayDecide}
+use Rattle.floor_laws.specs.table.nodes.Layout.{decider_at, no_decider}
 use Rattle.task_floor.proofs.floor.Floor.mark_placed.Goals as goal
 
 -- what the word says is so

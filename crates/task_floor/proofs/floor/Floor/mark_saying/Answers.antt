@@ -1,11 +1,11 @@
 use Rattle.std.proofs.Common.{◌≡◌, ◌<◌, ℕ, arith, sym, ap, subst, ◌∙◌}
 use mathlib.Core.Option.{none}
 use Rattle.atomic_table.specs.Table.{Allows, step}
-use Rattle.floor_table.specs.nodes.Deciders.{MayDecide}
-use Rattle.floor_table.specs.nodes.Holds.{TreeKeeps}
-use Rattle.floor_table.specs.nodes.Layout.{decider_place, tree_slot_count}
-use Rattle.floor_table.specs.nodes.RecordSeats.{MarksPlaced, record_task}
-use Rattle.floor_table.proofs.nodes.MarkCalls as calls
+use Rattle.floor_laws.specs.table.nodes.Deciders.{MayDecide}
+use Rattle.floor_laws.specs.table.nodes.Holds.{TreeKeeps}
+use Rattle.floor_laws.specs.table.nodes.Layout.{decider_place, tree_slot_count}
+use Rattle.floor_laws.specs.table.nodes.RecordSeats.{MarksPlaced, record_task}
+use Rattle.floor_laws.proofs.table.nodes.MarkCalls as calls
 use Rattle.task_floor.proofs.floor.Floor.mark_saying.Goals as goal
 
 pub store-requires : goal.store-requires

@@ -2,8 +2,8 @@ use Rattle.std.proofs.Common.{List, [], ap, ◌∙◌}
 use Rattle.std.specs.Prelude.{IfOk, Result, Ok, Err}
 use Rattle.seg_journal.specs.declared.journal.Entry.{Entry}
 use Rattle.twe_program.specs.Program.{Program}
-use Rattle.twe_machine.specs.Moves.{start_of}
-use Rattle.floor_table.specs.nodes.Holds.{first_tree_view}
+use Rattle.machine_state.specs.Moves.{start_of}
+use Rattle.floor_laws.specs.table.nodes.Holds.{first_tree_view}
 use Rattle.task_floor.specs.steps.Waking.{log_of}
 use Rattle.task_floor.proofs.Planted.{none_at_start}
 use Rattle.task_floor.proofs.floor.Floor.new.Goals as goal

@@ -1,8 +1,8 @@
 use Rattle.std.proofs.Common.{List, sym, subst}
 use Rattle.atomic_table.specs.Table.{opening}
-use Rattle.floor_table.specs.declared.nodes.slot.TreeSlot.{TreeSlot}
-use Rattle.floor_table.specs.nodes.Holds.{TreeKeeps, first_tree_view}
-use Rattle.floor_table.proofs.nodes.Starts.{opens}
+use Rattle.floor_laws.specs.declared.table.nodes.slot.TreeSlot.{TreeSlot}
+use Rattle.floor_laws.specs.table.nodes.Holds.{TreeKeeps, first_tree_view}
+use Rattle.floor_laws.proofs.table.nodes.Starts.{opens}
 use Rattle.task_floor.proofs.floor.Floor.open.Goals as goal
 
 pub new-requires : goal.new-requires

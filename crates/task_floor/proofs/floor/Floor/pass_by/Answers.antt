@@ -1,10 +1,10 @@
 use Rattle.std.proofs.Common.{ℕ, arith, sym, subst}
 use mathlib.Core.Option.{none}
 use Rattle.atomic_table.specs.Table.{Allows, step}
-use Rattle.floor_table.specs.nodes.Holds.{TreeKeeps}
-use Rattle.floor_table.specs.nodes.Layout.{lock_place, tree_slot_count}
-use Rattle.floor_table.specs.nodes.Plays.{PassesNode}
-use Rattle.floor_table.proofs.nodes.PassingBy as calls
+use Rattle.floor_laws.specs.table.nodes.Holds.{TreeKeeps}
+use Rattle.floor_laws.specs.table.nodes.Layout.{lock_place, tree_slot_count}
+use Rattle.floor_laws.specs.table.nodes.Plays.{PassesNode}
+use Rattle.floor_laws.proofs.table.nodes.PassingBy as calls
 use Rattle.task_floor.proofs.Tries.{kept_is, passed_is}
 use Rattle.task_floor.proofs.floor.Floor.pass_by.Goals as goal
 

@@ -1,7 +1,7 @@
 use Rattle.std.proofs.Common.{◌≡◌, sym, ap, ◌∙◌}
 use Rattle.core.specs.Mem.Slots.{slots_items}
-use Rattle.twe_machine.specs.declared.state.State.{State}
-use Rattle.twe_machine.specs.Runs.{state_after}
+use Rattle.machine_state.specs.declared.state.State.{State}
+use Rattle.machine_state.specs.Runs.{state_after}
 use Rattle.task_floor.proofs.steps.Rested.{journal_shown, parts_numbered}
 use Rattle.task_floor.proofs.floor.Floor.read_rest.Goals as goal
 

@@ -1,11 +1,11 @@
 use Rattle.std.proofs.Common.{◌≡◌, ◌+◌, ◌*◌, ℕ, List, map, refl, sym, ap, ◌∙◌, arith}
 use Rattle.core.specs.Mem.Slots.{slots_items}
 use mathlib.Core.Option as core
-use Rattle.twe_machine.specs.declared.state.TaskRow.{TaskRow}
-use Rattle.twe_machine.specs.Rows.{link_of_row}
-use Rattle.twe_machine.specs.Runs.{IsReached, state_after}
-use Rattle.floor_rule.proofs.FirstFaults.{first_fault_is}
-use Rattle.floor_table.specs.Layout.{asked_of_clock, cell_words_from, number_at}
+use Rattle.machine_state.specs.declared.state.TaskRow.{TaskRow}
+use Rattle.machine_state.specs.Rows.{link_of_row}
+use Rattle.machine_state.specs.Runs.{IsReached, state_after}
+use Rattle.floor_laws.proofs.rule.FirstFaults.{first_fault_is}
+use Rattle.floor_laws.specs.table.Layout.{asked_of_clock, cell_words_from, number_at}
 use Rattle.task_floor.proofs.steps.Readings.{asked_read, cells_read, cells_small, few, rows_ordered, state_is, tasks_are, within}
 use Rattle.task_floor.proofs.floor.Floor.read_state.Goals as goal
 

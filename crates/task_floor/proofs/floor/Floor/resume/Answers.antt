@@ -1,9 +1,9 @@
 use Rattle.std.proofs.Common.{◌<◌, ℕ, subst}
 use Rattle.task_floor.proofs.steps.InHand.{may_store_running}
-use Rattle.floor_table.specs.nodes.FloorSeats.{floor_seat}
+use Rattle.floor_laws.specs.table.nodes.FloorSeats.{floor_seat}
 use Rattle.task_floor.proofs.Alone.{one_wait, waits_undone}
 use Rattle.task_floor.proofs.GoingOn.{enough_now, moves_now, same_enough, still_in_hand}
-use Rattle.task_floor.proofs.Valuing.{more_live, more_slots, waits_for}
+use Rattle.task_floor.proofs.Valuing.{left_for, more_live, more_slots, waits_for}
 use Rattle.task_floor.proofs.floor.Floor.resume.Goals as goal
 
 pub set_phase-requires-clause-live : goal.set_phase-requires-clause-live
@@ -62,3 +62,6 @@ returns-in-None-clause-alone g c on is = waits_undone g.N.Named.prog g.N.Named.l
 
 pub returns-in-None-clause-above : goal.returns-in-None-clause-above
 returns-in-None-clause-above g c on is = subst (λ (u : ℕ). c.args.task < u) (one_wait c.args.on on is) c.requires.on.1
+
+pub returns-in-None-clause-left : goal.returns-in-None-clause-left
+returns-in-None-clause-left g c on is = left_for c.args.stand.now.me.0 c.value_of.new.stand.me.0 c.args.on on is c.in-None.ensures.left

@@ -1,9 +1,9 @@
 use Rattle.std.proofs.Common.{◌≡◌, sym, subst}
 use Rattle.twe_program.specs.Program.{Program}
 use Rattle.twe_program.specs.WellFormed.{IsWellFormed}
-use Rattle.seg_exec.specs.Segment.{CarriesOut, MayCarryOut}
+use Rattle.seg_meaning.specs.Segment.{CarriesOut, MayCarryOut}
 use Rattle.task_floor.specs.steps.Segments.{HasRunSegment}
-use Rattle.floor_table.specs.nodes.FloorSeats.{floor_seat}
+use Rattle.floor_laws.specs.table.nodes.FloorSeats.{floor_seat}
 use Rattle.task_floor.specs.inner.InHand.{GoesOver, SegFollows, SegView, TouchesAlone, seg_ways}
 use Rattle.task_floor.proofs.Carrying.{bare, carried_alone, has_run, may_carry_here}
 use Rattle.task_floor.proofs.floor.Floor.run.Goals as goal

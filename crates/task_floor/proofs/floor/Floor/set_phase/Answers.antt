@@ -1,13 +1,13 @@
 use Rattle.std.proofs.Common.{ℕ, arith, sym, ap, subst}
 use mathlib.Core.Option.{none}
 use Rattle.atomic_table.specs.Table.{Allows, step}
-use Rattle.floor_table.specs.Layout.{phase_place, word_of_phase}
-use Rattle.floor_table.specs.Plays.{StoresPhase}
-use Rattle.floor_table.specs.Tells.{Seat}
-use Rattle.floor_table.specs.nodes.FloorSeats.{StoresTreePhase, floor_seat}
-use Rattle.floor_table.specs.nodes.Holds.{TreeKeeps}
-use Rattle.floor_table.specs.nodes.Layout.{tree_slot_count}
-use Rattle.floor_table.proofs.nodes.PhaseCalls.{store_phase}
+use Rattle.floor_laws.specs.table.Layout.{phase_place, word_of_phase}
+use Rattle.floor_laws.specs.table.Plays.{StoresPhase}
+use Rattle.floor_laws.specs.table.Tells.{Seat}
+use Rattle.floor_laws.specs.table.nodes.FloorSeats.{StoresTreePhase, floor_seat}
+use Rattle.floor_laws.specs.table.nodes.Holds.{TreeKeeps}
+use Rattle.floor_laws.specs.table.nodes.Layout.{tree_slot_count}
+use Rattle.floor_laws.proofs.table.nodes.PhaseCalls.{store_phase}
 use Rattle.task_floor.proofs.Told.{stays, told}
 use Rattle.task_floor.proofs.floor.Floor.set_phase.Goals as goal
 

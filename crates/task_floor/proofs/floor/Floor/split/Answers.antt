@@ -1,5 +1,5 @@
 use Rattle.std.proofs.Common.{arith}
-use Rattle.floor_table.proofs.nodes.Splits.{split_tree}
+use Rattle.floor_laws.proofs.table.nodes.Splits.{split_tree}
 use Rattle.task_floor.proofs.floor.Floor.split.Goals as goal
 
 pub split_seat-requires : goal.split_seat-requires

@@ -1,12 +1,12 @@
 use Rattle.std.proofs.Common.{ℕ, arith, sym, subst}
 use mathlib.Core.Option.{none}
 use Rattle.atomic_table.specs.Table.{Allows, step}
-use Rattle.floor_table.specs.Layout.{phase_place}
-use Rattle.floor_table.specs.nodes.Alone.{LearnsAlone}
-use Rattle.floor_table.specs.nodes.Follows.{FollowedPhase, FollowsWait}
-use Rattle.floor_table.specs.nodes.Holds.{TreeKeeps}
-use Rattle.floor_table.specs.nodes.Layout.{tree_slot_count}
-use Rattle.floor_table.proofs.nodes.Following.{follow}
+use Rattle.floor_laws.specs.table.Layout.{phase_place}
+use Rattle.floor_laws.specs.table.nodes.Alone.{LearnsAlone}
+use Rattle.floor_laws.specs.table.nodes.Follows.{FollowedPhase, FollowsWait}
+use Rattle.floor_laws.specs.table.nodes.Holds.{TreeKeeps}
+use Rattle.floor_laws.specs.table.nodes.Layout.{tree_slot_count}
+use Rattle.floor_laws.proofs.table.nodes.Following.{follow}
 use Rattle.task_floor.proofs.floor.Floor.status.Goals as goal
 
 pub load-word-requires : goal.load-word-requires

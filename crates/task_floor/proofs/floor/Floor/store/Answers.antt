@@ -2,13 +2,13 @@ use Rattle.std.proofs.Common.{ℕ, arith, sym, ap, subst, ◌∙◌, w32}
 use Rattle.std.proofs.lemmas.Int.{to_z-of_z}
 use mathlib.Core.Option.{none}
 use Rattle.atomic_table.specs.Table.{Allows, step}
-use Rattle.floor_table.specs.Layout.{cell_place}
-use Rattle.floor_table.specs.Plays.{StoresCell}
-use Rattle.floor_table.specs.Tells.{Seat}
-use Rattle.floor_table.specs.nodes.FloorSeats.{StoresTreeCell, floor_seat}
-use Rattle.floor_table.specs.nodes.Holds.{TreeKeeps}
-use Rattle.floor_table.specs.nodes.Layout.{tree_slot_count}
-use Rattle.floor_table.proofs.nodes.FloorCalls.{store_cell}
+use Rattle.floor_laws.specs.table.Layout.{cell_place}
+use Rattle.floor_laws.specs.table.Plays.{StoresCell}
+use Rattle.floor_laws.specs.table.Tells.{Seat}
+use Rattle.floor_laws.specs.table.nodes.FloorSeats.{StoresTreeCell, floor_seat}
+use Rattle.floor_laws.specs.table.nodes.Holds.{TreeKeeps}
+use Rattle.floor_laws.specs.table.nodes.Layout.{tree_slot_count}
+use Rattle.floor_laws.proofs.table.nodes.FloorCalls.{store_cell}
 use Rattle.task_floor.proofs.Told.{stays, told}
 use Rattle.task_floor.proofs.floor.Floor.store.Goals as goal
 

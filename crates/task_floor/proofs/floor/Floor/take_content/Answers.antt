@@ -1,5 +1,5 @@
 use Rattle.std.proofs.Common.{sym, ◌∙◌}
-use Rattle.floor_table.specs.declared.nodes.slot.TreeSlot.TheVariants as kinds
+use Rattle.floor_laws.specs.declared.table.nodes.slot.TreeSlot.TheVariants as kinds
 use Rattle.task_floor.proofs.Givings.{content_is, has_taken, no_errand, no_task, out_is}
 use Rattle.task_floor.proofs.floor.Floor.take_content.Goals as goal
 

@@ -3,16 +3,16 @@ use Rattle.std.specs.Prelude.{◌==◌}
 use mathlib.Core.Option.{none}
 use prog.Atomic.{either}
 use Rattle.atomic_table.specs.Table.{Allows, step}
-use Rattle.floor_rule.proofs.Puts.{none_some, some_one}
-use Rattle.floor_rule.specs.Rows.{slot_of}
-use Rattle.floor_table.specs.Layout.{free_word, taken_word, turn_place}
-use Rattle.floor_table.specs.declared.nodes.slot.TreeSlot.TheVariants as kinds
-use Rattle.floor_table.specs.nodes.Holds.{TreeKeeps}
-use Rattle.floor_table.specs.nodes.Layout.{tree_slot_count}
-use Rattle.floor_table.specs.declared.nodes.view.Look.TheVariants.{AtTurn}
-use Rattle.floor_table.specs.nodes.Looks.{looked_seat}
-use Rattle.floor_table.specs.nodes.TurnSeats.{TookTreeTurn, TriesTreeTurn}
-use Rattle.floor_table.proofs.nodes.Takes.{try_tree_turn}
+use Rattle.floor_laws.proofs.rule.Puts.{none_some, some_one}
+use Rattle.floor_laws.specs.rule.Rows.{slot_of}
+use Rattle.floor_laws.specs.table.Layout.{free_word, taken_word, turn_place}
+use Rattle.floor_laws.specs.declared.table.nodes.slot.TreeSlot.TheVariants as kinds
+use Rattle.floor_laws.specs.table.nodes.Holds.{TreeKeeps}
+use Rattle.floor_laws.specs.table.nodes.Layout.{tree_slot_count}
+use Rattle.floor_laws.specs.declared.table.nodes.view.Look.TheVariants.{AtTurn}
+use Rattle.floor_laws.specs.table.nodes.Looks.{looked_seat}
+use Rattle.floor_laws.specs.table.nodes.TurnSeats.{TookTreeTurn, TriesTreeTurn}
+use Rattle.floor_laws.proofs.table.nodes.Takes.{try_tree_turn}
 use Rattle.task_floor.proofs.Taking.{has_taken_task, held_is, home_is, out_first, took_of}
 use Rattle.task_floor.proofs.floor.Floor.take_turn.Goals as goal
 

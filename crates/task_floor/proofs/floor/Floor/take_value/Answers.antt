@@ -1,13 +1,13 @@
 use Rattle.std.proofs.Common.{◌≡◌, sym, ap, subst, ◌∙◌, w32, to_z, of_z}
 use Rattle.std.proofs.lemmas.Int.{to_z-of_z}
-use Rattle.floor_rule.specs.declared.view.Phase.{Phase}
-use Rattle.floor_table.specs.Layout.{phase_of_word, word_of_phase}
+use Rattle.floor_laws.specs.declared.rule.view.Phase.{Phase}
+use Rattle.floor_laws.specs.table.Layout.{phase_of_word, word_of_phase}
 use Rattle.task_floor.specs.steps.Resuming.{KnowsValue}
-use Rattle.floor_table.specs.nodes.FloorSeats.{floor_seat}
-use Rattle.floor_table.proofs.Steps.{phase_again}
+use Rattle.floor_laws.specs.table.nodes.FloorSeats.{floor_seat}
+use Rattle.floor_laws.proofs.table.Steps.{phase_again}
 use Rattle.task_floor.proofs.Alone.{new_undone, taken_undone}
 use Rattle.task_floor.proofs.Looking.{busy_more}
-use Rattle.task_floor.proofs.Valuing.{busy_not_had, gave_more_beside, live_looked, live_taken, may_give_looked, slots_looked, value_known, value_not_had}
+use Rattle.task_floor.proofs.Valuing.{busy_left, busy_not_had, gave_more_beside, live_looked, live_taken, may_give_looked, slots_looked, turn_for_nothing, value_known, value_not_had}
 use Rattle.task_floor.proofs.floor.Floor.take_value.Goals as goal
 
 pub status-phase-requires-clause-live : goal.status-phase-requires-clause-live
@@ -73,6 +73,8 @@ returns-in_default g c =
       value = tt;
       none = value_not_had nodes a mid c.args.task c.in-Ok.slot took lim after found c.status-phase.ensures.found c.give_turn.new.stand.me (c.give_turn.ensures.gave took.floor.turn a.1 back)
           (λ done. c.in_default.not-Done (sym (phase_again c.status-phase.result) ∙ done));
+      left = turn_for_nothing nodes a mid c.args.task c.in-Ok.slot took lim after found c.status-phase.ensures.found c.give_turn.new.stand.me (c.give_turn.ensures.gave took.floor.turn a.1 back)
+          (λ done. c.in_default.not-Done (sym (phase_again c.status-phase.result) ∙ done));
       alone = taken_undone nodes g.N.Named.prog lim a mid after c.args.task found c.in-Ok.slot took c.status-phase.ensures.found c.status-phase.ensures.alone
           (λ done. c.in_default.not-Done (sym (phase_again c.status-phase.result) ∙ done));
       more = gave_more_beside nodes a mid c.args.task c.in-Ok.slot took lim after found c.status-phase.ensures.found c.give_turn.new.stand.me (c.give_turn.ensures.gave took.floor.turn a.1 back);
@@ -84,6 +86,9 @@ returns-in_default g c =
 
 pub returns-in-Err-clause-none : goal.returns-in-Err-clause-none
 returns-in-Err-clause-none g c = busy_not_had c.args.stand.now.me c.take_turn.new.stand.me c.args.task _ c.in-Err.ensures.busy
+
+pub returns-in-Err-clause-left : goal.returns-in-Err-clause-left
+returns-in-Err-clause-left g c = busy_left c.args.stand.now.me c.take_turn.new.stand.me c.args.task _ c.in-Err.ensures.busy
 
 pub returns-in-Err-clause-more : goal.returns-in-Err-clause-more
 returns-in-Err-clause-more g c = busy_more c.args.stand.now.me c.take_turn.new.stand.me c.args.task _ c.in-Err.ensures.busy

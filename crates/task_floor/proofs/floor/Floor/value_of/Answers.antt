@@ -1,10 +1,10 @@
 use Rattle.std.proofs.Common.{sym, ◌∙◌}
-use Rattle.floor_table.specs.Layout.{word_of_phase}
-use Rattle.floor_table.proofs.Steps.{phase_again}
-use Rattle.floor_table.specs.nodes.FloorSeats.{floor_seat}
+use Rattle.floor_laws.specs.table.Layout.{word_of_phase}
+use Rattle.floor_laws.proofs.table.Steps.{phase_again}
+use Rattle.floor_laws.specs.table.nodes.FloorSeats.{floor_seat}
 use Rattle.task_floor.proofs.Alone.{found_undone, none_then, undone_since}
 use Rattle.task_floor.proofs.Looking.{has_looked, looked_more}
-use Rattle.task_floor.proofs.Valuing.{look_closed, look_idle, look_live, look_not_had, look_slots, looked_rest, looked_then_more, none_had_since}
+use Rattle.task_floor.proofs.Valuing.{look_closed, look_idle, look_left, look_live, look_not_had, look_slots, looked_rest, looked_then_more, none_had_since, none_left_looked}
 use Rattle.task_floor.proofs.floor.Floor.value_of.Goals as goal
 
 pub take_value-requires-clause-live : goal.take_value-requires-clause-live
@@ -46,3 +46,11 @@ returns-in-Done-clause-alone g c =
 pub returns-in_default-clause-alone : goal.returns-in_default-clause-alone
 returns-in_default-clause-alone g c =
     found_undone g.N.Named.prog g.N.Named.lim c.args.stand.now.me c.args.task (word_of_phase c.status.result) c.status.ensures.alone (λ done. c.in_default.not-Done (sym (phase_again c.status.result) ∙ done))
+
+pub returns-in-Done-clause-left : goal.returns-in-Done-clause-left
+returns-in-Done-clause-left g c =
+    none_left_looked g.N.Named.lim c.args.stand.now.me c.status.new.stand.me c.take_value.new.stand.me.0 c.args.task c.args.task (word_of_phase c.status.result) c.take_value.result
+    c.status.ensures.found c.take_value.ensures.left
+
+pub returns-in_default-clause-left : goal.returns-in_default-clause-left
+returns-in_default-clause-left g c = look_left g.N.Named.lim c.args.stand.now.me c.status.new.stand.me c.args.task (word_of_phase c.status.result) c.status.ensures.found

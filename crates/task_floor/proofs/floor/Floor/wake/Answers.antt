@@ -3,11 +3,11 @@ use Rattle.region_paths.specs.declared.elements.Elem.{Elem}
 use Rattle.prefix_tree.specs.Nodes.{IsTreeOfPaths}
 use Rattle.seg_journal.specs.declared.journal.Entry.{Entry}
 use Rattle.twe_base.specs.Limits.{Bounds, IsWithin}
-use Rattle.admission_laws.specs.admission_core.States.{IsAmong, Record}
-use Rattle.floor_rule.specs.nodes.Fitting.{IsDistinct}
-use Rattle.floor_rule.specs.nodes.Starts.{AreOfEnabled}
-use Rattle.floor_table.specs.declared.nodes.slot.TreeSlot.{TreeSlot}
-use Rattle.floor_table.specs.declared.nodes.slot.TreeSlot.TheVariants as kinds
+use Rattle.floor_laws.specs.admission.admission_core.States.{IsAmong, Record}
+use Rattle.floor_laws.specs.rule.nodes.Fitting.{IsDistinct}
+use Rattle.floor_laws.specs.rule.nodes.Starts.{AreOfEnabled}
+use Rattle.floor_laws.specs.declared.table.nodes.slot.TreeSlot.{TreeSlot}
+use Rattle.floor_laws.specs.declared.table.nodes.slot.TreeSlot.TheVariants as kinds
 use Rattle.task_floor.specs.steps.Waking.{log_of}
 use Rattle.task_floor.proofs.steps.Woken.{cells_many, clock_few, shows_run, tasks_few}
 use Rattle.task_floor.specs.inner.Recording.{HoldRecords}

@@ -1,8 +1,8 @@
 use Rattle.std.proofs.Common.{◌≡◌, ℤ, Some, sym, ap, subst, ◌∙◌, w32, to_z, of_z}
 use Rattle.std.proofs.lemmas.Int.{to_z-of_z}
 use Rattle.twe_program.specs.Program.{Program}
-use Rattle.seg_exec.specs.Access.{HasRead}
-use Rattle.floor_rule.specs.declared.view.Touch.TheVariants.{Read}
+use Rattle.seg_meaning.specs.Access.{HasRead}
+use Rattle.floor_laws.specs.declared.rule.view.Touch.TheVariants.{Read}
 use Rattle.task_floor.specs.declared.in_hand.CellInHand.{CellInHand}
 use Rattle.task_floor.specs.declared.in_hand.CellInHand.TheVariants.{Nothing, Known}
 use Rattle.task_floor.specs.Segments.{HasTouched, MayReadCell}

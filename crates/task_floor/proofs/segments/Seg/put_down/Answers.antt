@@ -2,9 +2,9 @@ use Rattle.std.proofs.Common.{rules, ◌≡◌, ℕ, ℤ, SFits, sym, subst, ◌
 use Rattle.std.proofs.lemmas.Int.{to_z-of_z}
 use Rattle.twe_base.specs.Limits.{Bounds}
 use Rattle.twe_program.specs.Program.{Program}
-use Rattle.floor_rule.specs.declared.view.Touch.TheVariants.{Write}
-use Rattle.floor_table.specs.Tells.{IsLatest, WroteCell}
-use Rattle.floor_table.specs.nodes.FloorSeats.{floor_seat}
+use Rattle.floor_laws.specs.declared.rule.view.Touch.TheVariants.{Write}
+use Rattle.floor_laws.specs.table.Tells.{IsLatest, WroteCell}
+use Rattle.floor_laws.specs.table.nodes.FloorSeats.{floor_seat}
 use Rattle.task_floor.specs.declared.in_hand.CellInHand.{CellInHand}
 use Rattle.task_floor.specs.declared.in_hand.CellInHand.TheVariants.{Nothing, Written}
 use Rattle.task_floor.specs.Segments.{HasTouched}

@@ -1,6 +1,6 @@
 use Rattle.std.proofs.Common.{rules, ◌≡◌, ℤ, SFits, Some, sym, subst, ◌∙◌, w32, to_z, of_z}
 use Rattle.std.proofs.lemmas.Int.{to_z-of_z}
-use Rattle.seg_exec.specs.Access.{HasRead}
+use Rattle.seg_meaning.specs.Access.{HasRead}
 use Rattle.task_floor.specs.inner.InHand.{SegView, seg_ways, value_in_hand}
 use Rattle.task_floor.proofs.InHand.{read_again}
 use Rattle.task_floor.proofs.segments.SegCells.get.Goals as goal

@@ -1,6 +1,6 @@
 use Rattle.std.proofs.Common.{◌≡◌, ℤ, sym, subst, w32, to_z, of_z}
 use Rattle.std.proofs.lemmas.Int.{to_z-of_z}
-use Rattle.seg_exec.specs.Access.{HasWritten}
+use Rattle.seg_meaning.specs.Access.{HasWritten}
 use Rattle.task_floor.specs.declared.in_hand.CellInHand.TheVariants.{Written}
 use Rattle.task_floor.specs.inner.InHand.{GoesOver, IsFreeFor, SegView, seg_ways}
 use Rattle.task_floor.proofs.InHand.{write_here}

@@ -1,6 +1,6 @@
 -- The walk goes up until the node right above is the one that the way begins at. It never comes to the root.
 use Rattle.std.proofs.Common.{ℕ, refl, sym, subst}
-use Rattle.admission_laws.specs.admission_core.States.{ActivityIsOver}
+use Rattle.floor_laws.specs.admission.admission_core.States.{ActivityIsOver}
 use Rattle.tree_admit.proofs.ways.WayLemmas.{not_over_root, over_end, still_over, up_above}
 use Rattle.tree_admit.proofs.ways.way.next_toward.Goals as goal
 

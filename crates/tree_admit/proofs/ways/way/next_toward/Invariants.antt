@@ -1,7 +1,7 @@
 -- The node that was reached lies on the way, below the one that the way begins at.
 use Rattle.std.proofs.Common.{length}
 use Rattle.prefix_tree.specs.Nodes.{path_of}
-use Rattle.admission_laws.specs.admission_core.States.{IsAbove, ActivityIsOver}
+use Rattle.floor_laws.specs.admission.admission_core.States.{IsAbove, ActivityIsOver}
 use Rattle.tree_admit.proofs.ways.way.next_toward.Given as goal
 
 abbrev pub invariant-loop-above : goal.invariant-loop-above

@@ -5,9 +5,9 @@ use Rattle.region_paths.specs.declared.elements.Elem.{Elem}
 use Rattle.region_paths.specs.Filled.{is_solid}
 use Rattle.prefix_tree.specs.Nodes.{path_of}
 use Rattle.effect_tree.specs.inner.Parts.{elem_paths}
-use Rattle.twe_machine.specs.declared.state.TaskStatus.TheVariants.{Enabled}
+use Rattle.machine_state.specs.declared.state.TaskStatus.TheVariants.{Enabled}
 use Rattle.twe_machine.specs.Books.{BookIsDecided, IsPlacedIn}
-use Rattle.twe_machine.specs.Rows.{HasStatus}
+use Rattle.machine_state.specs.Rows.{HasStatus}
 use Rattle.twe_machine.proofs.listing.Books.{KnowAbove}
 use Rattle.twe_machine.proofs.book.TaskBook.add.Given as goal
 

@@ -1,9 +1,9 @@
 -- Who stood in the book and is enabled still does.
 use Rattle.std.proofs.Common.{ℕ, List}
 use Rattle.region_paths.specs.declared.elements.Elem.{Elem}
-use Rattle.twe_machine.specs.declared.state.TaskStatus.TheVariants.{Enabled}
+use Rattle.machine_state.specs.declared.state.TaskStatus.TheVariants.{Enabled}
 use Rattle.twe_machine.specs.Books.{BookIsDecided, IsPlacedIn}
-use Rattle.twe_machine.specs.Rows.{HasStatus}
+use Rattle.machine_state.specs.Rows.{HasStatus}
 use Rattle.twe_machine.proofs.book.TaskBook.drop_over.Given as goal
 
 abbrev pub invariant-loop-elem : goal.invariant-loop-elem

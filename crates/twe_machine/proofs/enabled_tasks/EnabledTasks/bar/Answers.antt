@@ -4,8 +4,8 @@ use Rattle.effect_sets.specs.declared.effects.Effect.{Effect}
 use Rattle.twe_machine.specs.Listings.{HasEffect}
 use Rattle.twe_machine.proofs.listing.Books.{none_then}
 use Rattle.twe_machine.proofs.listing.Listed.{may_by}
-use Rattle.twe_machine.proofs.standing.ReachedStands.{reached_stands}
-use Rattle.twe_machine.proofs.tasks.Filled.{reached_filled}
+use Rattle.machine_state.proofs.standing.ReachedStands.{reached_stands}
+use Rattle.machine_state.proofs.tasks.Filled.{reached_filled}
 use Rattle.twe_machine.proofs.enabled_tasks.EnabledTasks.bar.Goals as goal
 
 pub bar_to_all-requires-clause-agree : goal.bar_to_all-requires-clause-agree

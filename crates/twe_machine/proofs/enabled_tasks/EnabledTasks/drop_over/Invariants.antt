@@ -1,9 +1,9 @@
 -- No enabled task was taken out.
 use Rattle.std.proofs.Common.{ℕ}
 use Rattle.effect_sets.specs.declared.effects.Effect.{Effect}
-use Rattle.twe_machine.specs.declared.state.TaskStatus.TheVariants.{Enabled}
+use Rattle.machine_state.specs.declared.state.TaskStatus.TheVariants.{Enabled}
 use Rattle.twe_machine.specs.Books.{AreDecided, IsEntered}
-use Rattle.twe_machine.specs.Rows.{HasStatus}
+use Rattle.machine_state.specs.Rows.{HasStatus}
 use Rattle.twe_machine.proofs.enabled_tasks.EnabledTasks.drop_over.Given as goal
 
 abbrev pub invariant-loop-effect : goal.invariant-loop-effect

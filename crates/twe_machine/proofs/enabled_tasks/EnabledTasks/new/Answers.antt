@@ -1,5 +1,5 @@
-use Rattle.twe_machine.specs.Moves.{start_of}
-use Rattle.twe_machine.proofs.tasks.MadeTasks.{none_enabled}
+use Rattle.machine_state.specs.Moves.{start_of}
+use Rattle.machine_state.proofs.tasks.MadeTasks.{none_enabled}
 use Rattle.twe_machine.proofs.enabled_tasks.EnabledTasks.new.Goals as goal
 
 -- at the start no task is enabled

@@ -2,7 +2,7 @@ use Rattle.std.proofs.Common.{◌≡◌, ℕ, inl, inr, sym, subst, arith}
 use Rattle.std.proofs.lemmas.Bool.{cases_lt}
 use Rattle.std.proofs.lemmas.Option.{slice_get_within}
 use Rattle.twe_machine.specs.Books.{IsEntered}
-use Rattle.twe_machine.specs.Rows.{IsRow}
+use Rattle.machine_state.specs.Rows.{IsRow}
 use Rattle.twe_machine.proofs.enabled_tasks.EnabledTasks.of.Goals as goal
 
 pub loop-t-init : goal.loop-t-init

@@ -4,12 +4,12 @@ use Rattle.std.proofs.lemmas.Option.{slice_get_within}
 use Rattle.twe_machine.proofs.listing.Leading.{led_leads}
 use Rattle.twe_machine.proofs.queue.Queue.decider_of.Goals as goal
 
-pub returns-then-all_lead : goal.returns-then-all_lead
-returns-then-all_lead c = inl (
+pub returns-then-first_all_wait : goal.returns-then-first_all_wait
+returns-then-first_all_wait c = inl (
   c.len-count.ensures,
   λ i e low at.
       let within = slice_get_within c.args.self.now.entries i e at in
-      led_leads c.args.st.now.links e.task c.args.t (c.all_lead.ensures c.if-all_lead.true i e (omega arith) (omega (arith, within, c.len-count.ensures)) at),
+      led_leads c.args.st.now.links e.task c.args.t (c.first_all_wait.ensures c.if-first_all_wait.true i e (omega arith) (omega (arith, within, c.len-count.ensures)) at),
 )
 
 pub returns-in-Some : goal.returns-in-Some

@@ -1,8 +1,8 @@
 -- No enabled task was taken out.
 use Rattle.std.proofs.Common.{ℕ, length}
-use Rattle.twe_machine.specs.declared.state.TaskStatus.TheVariants.{Enabled}
+use Rattle.machine_state.specs.declared.state.TaskStatus.TheVariants.{Enabled}
 use Rattle.twe_machine.specs.Queues.{IsQueued, IsDecided}
-use Rattle.twe_machine.specs.Rows.{HasStatus}
+use Rattle.machine_state.specs.Rows.{HasStatus}
 use Rattle.twe_machine.proofs.queue.Queue.drop_over.Given as goal
 
 abbrev pub invariant-dropping : goal.invariant-dropping

@@ -1,9 +1,9 @@
 -- The last entry is made one that decides.
 use Rattle.std.proofs.Common.{◌≡◌, ◌-◌, ◌<◌, ◌++◌, ◌∷◌, [], ℕ, List, Some, length, sym, ap, ◌∙◌, subst, arith}
 use Rattle.twe_machine.specs.declared.queue.Queued.{Queued}
-use Rattle.twe_machine.specs.Queues.{FirstLead, IsDecided, IsQueued}
+use Rattle.twe_machine.specs.Queues.{FirstKeepWaiting, IsDecided, IsQueued}
 use Rattle.twe_machine.proofs.listing.Entries.{decided_late, task_late}
-use Rattle.twe_machine.proofs.lists.Places.{below_there}
+use Rattle.machine_state.proofs.lists.Places.{below_there}
 use Rattle.twe_machine.proofs.queue.Queue.settle_last.Goals as goal
 
 pub returns-clause-kept : goal.returns-clause-kept
@@ -28,4 +28,4 @@ returns-clause-decided c =
     let e = below_there entries last low in
     subst (IsDecided links) (sym (c.in_ok-push.ensures.ok ∙ ap (λ (es : List Queued). es ++ f ∷ []) c.truncate.ensures))
     (decided_late links entries last task low c.requires
-    (subst (λ (u : ℕ). FirstLead links entries last u) (c.task_at-task.ensures e.0 e.1) (c.decides_by_now.ensures (search) e.0 e.1)))
+    (subst (λ (u : ℕ). FirstKeepWaiting links entries last u) (c.task_at-task.ensures e.0 e.1) (c.decides_by_now.ensures (search) e.0 e.1)))

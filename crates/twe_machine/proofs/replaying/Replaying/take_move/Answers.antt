@@ -2,12 +2,12 @@ use Rattle.std.proofs.Common.{◌≡◌, List, [], ◌∷◌, ◌++◌, refl, sy
 use Rattle.seg_journal.specs.declared.journal.End.{End}
 use Rattle.seg_journal.specs.declared.journal.Entry.{Entry}
 use Rattle.twe_program.specs.WellFormed.{IsWellFormed}
-use Rattle.twe_machine.specs.declared.state.State.{State}
-use Rattle.twe_machine.specs.Legal.{MayMove}
-use Rattle.twe_machine.specs.Moves.{move_result}
-use Rattle.twe_machine.specs.Runs.{IsRun, entry_of}
+use Rattle.machine_state.specs.declared.state.State.{State}
+use Rattle.machine_state.specs.Legal.{MayMove}
+use Rattle.machine_state.specs.Moves.{move_result}
+use Rattle.machine_state.specs.Runs.{IsRun, entry_of}
 use Rattle.twe_machine.proofs.listing.Listed.{was_listed}
-use Rattle.twe_machine.proofs.replays.Replayed.{run_more}
+use Rattle.machine_state.proofs.replays.Replayed.{run_more}
 use Rattle.twe_machine.proofs.replaying.Replaying.take_move.Goals as goal
 
 pub step-requires-clause-reached : goal.step-requires-clause-reached

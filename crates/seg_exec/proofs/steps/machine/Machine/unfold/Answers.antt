@@ -2,7 +2,7 @@ use Rattle.std.proofs.Common.{sym, ◌∙◌}
 use Rattle.std.specs.Prelude.{option_copied}
 use Rattle.twe_program.specs.Statement.{statements_of}
 use Rattle.seg_exec.specs.inner.steps.Views.{config_of}
-use Rattle.seg_exec.proofs.Remains.{none_left, unfold_end, unfold_step}
+use Rattle.seg_exec.proofs.steps.Unfolding.{none_left, unfold_end, unfold_step}
 use Rattle.seg_exec.proofs.steps.machine.Machine.unfold.Goals as goal
 
 pub positions-preserved : goal.positions-preserved

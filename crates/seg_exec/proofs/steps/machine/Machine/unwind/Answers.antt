@@ -5,7 +5,7 @@ use Rattle.seg_exec.specs.inner.steps.Continuations.{Config, Unwind, to_do}
 use Rattle.seg_exec.specs.inner.steps.Steps.{on}
 use Rattle.seg_exec.specs.inner.steps.Views.{callers_past, calls_past, recovery_of, returning_past}
 use Rattle.seg_exec.proofs.steps.Callers.{unwound_as}
-use Rattle.seg_exec.proofs.Segments.{if_ok_map}
+use Rattle.seg_meaning.proofs.Results.{if_ok_map}
 use Rattle.seg_exec.proofs.steps.machine.Machine.unwind.Goals as goal
 
 pub returns-in-Caller : goal.returns-in-Caller

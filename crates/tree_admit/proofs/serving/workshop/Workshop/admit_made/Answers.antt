@@ -1,10 +1,10 @@
 use Rattle.std.proofs.Common.{List, Ok, ap, refl, subst, ◌∙◌}
 use Rattle.effect_sets.specs.declared.effects.Effect.{Effect}
-use Rattle.twe_machine.specs.Moves.{admitted_row}
-use Rattle.floor_rule.specs.declared.view.TaskSlot.{TaskSlot}
+use Rattle.machine_state.specs.Moves.{admitted_row}
+use Rattle.floor_laws.specs.declared.rule.view.TaskSlot.{TaskSlot}
 use Rattle.task_floor.specs.steps.Committing.{Log}
-use Rattle.floor_table.specs.declared.view.View.{View}
-use Rattle.floor_table.proofs.Added.{grown_is, grown_then}
+use Rattle.floor_laws.specs.declared.table.view.View.{View}
+use Rattle.floor_laws.proofs.table.Added.{grown_is, grown_then}
 use Rattle.tree_admit.specs.Attempts.{WasBarredFor}
 use Rattle.tree_admit.specs.declared.admitting.Admittance.{Admittance}
 use Rattle.tree_admit.proofs.serving.Serving.{admitted_one, admitted_same, drawn_admitted, had_since, held_since, held_tried, is_made, kept_part, kept_same, may_admit_tried, same_stands, same_trees_twice, same_twice}

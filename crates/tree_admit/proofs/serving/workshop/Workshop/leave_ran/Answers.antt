@@ -1,5 +1,5 @@
 use Rattle.std.proofs.Common.{refl, sym, subst, ◌∙◌}
-use Rattle.floor_rule.specs.declared.view.TaskSlot.{TaskSlot}
+use Rattle.floor_laws.specs.declared.rule.view.TaskSlot.{TaskSlot}
 use Rattle.task_floor.specs.Committing.{HasCommittedBeside, MayCommitBeside}
 use Rattle.tree_admit.proofs.serving.Serving.{committed_same, holds_made, run_one, same_stands, same_trees_twice, status_then, turn_then}
 use Rattle.tree_admit.proofs.serving.workshop.Workshop.leave_ran.Goals as goal

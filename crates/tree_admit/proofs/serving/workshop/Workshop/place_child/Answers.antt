@@ -1,5 +1,5 @@
 use Rattle.std.proofs.Common.{◌∷◌, [], None, ◌∙◌}
-use Rattle.floor_table.specs.declared.nodes.slot.TreeSlot.TheVariants as kinds
+use Rattle.floor_laws.specs.declared.table.nodes.slot.TreeSlot.TheVariants as kinds
 use Rattle.tree_admit.proofs.serving.Serving.{child_in_hand, drawn_then, kept_part, kept_same, left_part, left_same, may_give_placed, same_stands, same_twice}
 use Rattle.tree_admit.proofs.serving.workshop.Workshop.place_child.Goals as goal
 

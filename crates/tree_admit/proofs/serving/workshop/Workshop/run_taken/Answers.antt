@@ -1,7 +1,7 @@
 use Rattle.std.proofs.Common.{ap, sym, subst, ◌∙◌}
-use Rattle.floor_rule.specs.declared.view.TaskSlot.{TaskSlot}
+use Rattle.floor_laws.specs.declared.rule.view.TaskSlot.{TaskSlot}
 use Rattle.task_floor.specs.Holding.{HoldsReadyBeside}
-use Rattle.floor_table.specs.Tells.{Seat}
+use Rattle.floor_laws.specs.table.Tells.{Seat}
 use Rattle.task_floor.specs.steps.Committing.{Log}
 use Rattle.tree_admit.proofs.serving.Serving.{holds_ran, ran_same, run_since, same_stands, same_trees_twice}
 use Rattle.tree_admit.proofs.serving.workshop.Workshop.run_taken.Goals as goal

@@ -1,10 +1,10 @@
 use Rattle.std.proofs.Common.{◌≡◌, sym, subst, ◌∙◌, inl, inr, ⊎_elim, arith}
-use Rattle.floor_rule.specs.declared.view.TaskSlot.{TaskSlot}
+use Rattle.floor_laws.specs.declared.rule.view.TaskSlot.{TaskSlot}
 use Rattle.task_floor.specs.Holding.{HoldsTaskBeside}
-use Rattle.floor_rule.specs.declared.view.Phase.TheVariants as phases
-use Rattle.floor_rule.specs.Rows.{phase_of}
+use Rattle.floor_laws.specs.declared.rule.view.Phase.TheVariants as phases
+use Rattle.floor_laws.specs.rule.Rows.{phase_of}
 use Rattle.task_floor.specs.steps.Resuming.{IsReadiness}
-use Rattle.floor_table.specs.nodes.FloorSeats.{floor_seat}
+use Rattle.floor_laws.specs.table.nodes.FloorSeats.{floor_seat}
 use Rattle.task_floor.proofs.ServedBeside.{holds_ready}
 use Rattle.tree_admit.proofs.serving.Serving.{found_waiting, moved_part, run_since, still_held, was_found}
 use Rattle.tree_admit.proofs.Alone.{alone_then}

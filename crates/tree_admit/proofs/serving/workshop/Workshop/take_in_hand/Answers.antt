@@ -1,7 +1,7 @@
 use Rattle.std.proofs.Common.{refl, subst}
-use Rattle.twe_machine.specs.declared.state.State.{State}
-use Rattle.floor_rule.specs.Fitting.{IsMade}
-use Rattle.floor_table.specs.Alone.{IsAloneAt}
+use Rattle.machine_state.specs.declared.state.State.{State}
+use Rattle.floor_laws.specs.rule.Fitting.{IsMade}
+use Rattle.floor_laws.specs.table.Alone.{IsAloneAt}
 use Rattle.task_floor.specs.Stands.{TreeStand}
 use Rattle.task_floor.proofs.ServedBeside.{holds_taken}
 use Rattle.tree_admit.specs.declared.serving.worker.Holding.{Holding}

@@ -1,0 +1,3 @@
+pub mod WordAt
+pub mod Excerpt
+pub mod Notes

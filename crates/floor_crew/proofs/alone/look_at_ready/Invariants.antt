@@ -1,5 +1,0 @@
-use Rattle.floor_crew.specs.inner.GoingOn.{HasGoneOn}
-use Rattle.floor_crew.proofs.alone.look_at_ready.Given as goal
-
-abbrev pub invariant-looks : goal.invariant-looks
-invariant-looks l = HasGoneOn l.setup.p.now l.setup.lim l.fn.run.rest.journal l.run

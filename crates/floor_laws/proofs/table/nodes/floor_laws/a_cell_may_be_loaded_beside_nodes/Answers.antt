@@ -1,0 +1,5 @@
+use Rattle.floor_laws.proofs.table.nodes.FloorCalls.{load_cell}
+use Rattle.floor_laws.proofs.table.nodes.floor_laws.a_cell_may_be_loaded_beside_nodes.Goals as goal
+
+pub returns : goal.returns
+returns c = load_cell

@@ -1,0 +1,5 @@
+use Rattle.floor_laws.proofs.table.nodes.MarkCalls.{mark_placed_past}
+use Rattle.floor_laws.proofs.table.nodes.record_laws.a_record_beyond_the_tasks_may_be_marked_placed.Goals as goal
+
+pub returns : goal.returns
+returns c = mark_placed_past

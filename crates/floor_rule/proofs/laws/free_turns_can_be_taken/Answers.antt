@@ -1,5 +1,0 @@
-use Rattle.floor_rule.proofs.RuleSteps.{take}
-use Rattle.floor_rule.proofs.laws.free_turns_can_be_taken.Goals as goal
-
-pub returns : goal.returns
-returns c p lim log f i t well keeps rule free = take p well keeps lim log f rule i t free

@@ -1,5 +1,0 @@
-use Rattle.floor_rule.proofs.RuleSteps.{split}
-use Rattle.floor_rule.proofs.laws.splitting_a_seat_keeps_the_rule.Goals as goal
-
-pub returns : goal.returns
-returns c p lim log f i worker well keeps rule none = split p well keeps lim log f rule i worker none

@@ -1,5 +1,0 @@
-use Rattle.floor_rule.proofs.nodes.Facts.{stands_placed}
-use Rattle.floor_rule.proofs.nodes.fact_laws.records_stand_at_their_places.Goals as goal
-
-pub returns : goal.returns
-returns k nodes p lim log f tree core r both among = stands_placed nodes p lim log f tree core both r among

@@ -1,5 +1,0 @@
-use Rattle.floor_rule.proofs.nodes.TurnEvents.{takes}
-use Rattle.floor_rule.proofs.nodes.floor_laws.taking_a_turn_keeps_the_nodes.Goals as goal
-
-pub returns : goal.returns
-returns k nodes p lim log f tree core i t turn both free taken = takes nodes p lim log f tree core both i t turn free taken

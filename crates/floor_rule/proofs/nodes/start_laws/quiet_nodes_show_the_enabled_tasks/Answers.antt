@@ -1,5 +1,0 @@
-use Rattle.floor_rule.proofs.nodes.Quiet.{shows_enabled}
-use Rattle.floor_rule.proofs.nodes.start_laws.quiet_nodes_show_the_enabled_tasks.Goals as goal
-
-pub returns : goal.returns
-returns k nodes p lim log f tree core both none = shows_enabled nodes p lim log f tree core both none

@@ -1,5 +1,0 @@
-use Rattle.floor_table.proofs.nodes.Contents.{found_among}
-use Rattle.floor_table.proofs.nodes.content_laws.what_is_found_is_there.Goals as goal
-
-pub returns : goal.returns
-returns c = found_among

@@ -1,5 +1,0 @@
-use Rattle.floor_table.proofs.nodes.Following.{follow}
-use Rattle.floor_table.proofs.nodes.follow_laws.a_wait_may_be_followed.Goals as goal
-
-pub returns : goal.returns
-returns c = follow

@@ -1,5 +1,0 @@
-use Rattle.floor_table.proofs.nodes.Deciding.{look_up}
-use Rattle.floor_table.proofs.nodes.record_laws.a_decider_may_be_looked_up.Goals as goal
-
-pub returns : goal.returns
-returns c = look_up

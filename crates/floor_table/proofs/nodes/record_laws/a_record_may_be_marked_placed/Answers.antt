@@ -1,5 +1,0 @@
-use Rattle.floor_table.proofs.nodes.MarkCalls.{mark_placed}
-use Rattle.floor_table.proofs.nodes.record_laws.a_record_may_be_marked_placed.Goals as goal
-
-pub returns : goal.returns
-returns c = mark_placed

@@ -1,5 +1,0 @@
-use Rattle.floor_table.proofs.nodes.Takes.{given_again}
-use Rattle.floor_table.proofs.nodes.turn_laws.a_taken_turn_may_be_given_again.Goals as goal
-
-pub returns : goal.returns
-returns c = given_again

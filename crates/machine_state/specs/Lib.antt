@@ -1,0 +1,10 @@
+pub mod Changes
+pub mod FramesOut
+pub mod Legal
+pub mod LowestFirst
+pub mod Moves
+pub mod Replays
+pub mod Rows
+pub mod Runs
+pub mod inner
+pub mod segment_laws

@@ -1,7 +1,0 @@
-use Rattle.std.proofs.Common.{◌≡◌, drop}
-use Rattle.name_notes.specs.Declaring.{global_place}
-use Rattle.name_notes.proofs.declared.global_place.Given as goal
-
--- what is found in all of them is found from here on
-abbrev pub invariant-loop-item : goal.invariant-loop-item
-invariant-loop-item l = global_place l.word l.place (drop l.item-index l.items) ≡ global_place l.word l.place l.items

@@ -1,5 +1,0 @@
-use Rattle.pasting_laws.proofs.Whole.{tree-pasted}
-use Rattle.pasting_laws.proofs.laws.pasted_trees_keep_names.Goals as goal
-
-pub returns : goal.returns
-returns c tree summaries written keeps needs can = tree-pasted tree keeps summaries written needs can.same can.can

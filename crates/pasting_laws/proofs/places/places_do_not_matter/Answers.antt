@@ -1,5 +1,0 @@
-use Rattle.pasting_laws.proofs.places.Texts.{accepted-alike}
-use Rattle.pasting_laws.proofs.places.places_do_not_matter.Goals as goal
-
-pub returns : goal.returns
-returns c text other p its accepted again same = accepted-alike text other p its accepted again same

@@ -1,7 +1,0 @@
-use Rattle.std.proofs.Common.{◌≡◌, ◌+◌, drop}
-use Rattle.place_notes.specs.Lines.{line_length}
-use Rattle.place_notes.proofs.line.line_length.Given as goal
-
--- no byte 10 stands before this place
-abbrev pub invariant-loop-i : goal.invariant-loop-i
-invariant-loop-i l = line_length l.text ≡ l.i + line_length (drop l.i l.text)

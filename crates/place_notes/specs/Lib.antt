@@ -1,4 +1,0 @@
-pub mod Lines
-pub mod WordAt
-pub mod Excerpt
-pub mod Notes

@@ -1,6 +1,0 @@
-use Rattle.std.proofs.Common.{sym, ◌∙◌}
-use Rattle.seg_exec.proofs.Remains.{last_is}
-use Rattle.run_causes.proofs.last_begun.last_of.Goals as goal
-
-pub returns : goal.returns
-returns c = c.indexed.ensures ∙ sym (last_is c.args.count c.args.stmts.now c.if-count-eq0.false)

@@ -1,9 +1,0 @@
-use Rattle.std.proofs.Common.{◌-◌}
-use Rattle.run_picture.specs.inner.Chosen.{AreChosen}
-use Rattle.run_picture.proofs.choosing.choose_rows.Given as goal
-
-abbrev pub invariant-choosing : goal.invariant-choosing
-invariant-choosing l = AreChosen l.most l.works l.needed l.shown l.count
-
-abbrev pub decreases-choosing : goal.decreases-choosing
-decreases-choosing l = l.most - l.count

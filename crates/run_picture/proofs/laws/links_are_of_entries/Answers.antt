@@ -1,8 +1,0 @@
-use Rattle.run_picture.proofs.InTime.{giver_is_one, previous_is_one}
-use Rattle.run_picture.proofs.laws.links_are_of_entries.Goals as goal
-
-pub returns-clause-previous : goal.returns-clause-previous
-returns-clause-previous c = previous_is_one
-
-pub returns-clause-giver : goal.returns-clause-giver
-returns-clause-giver c = giver_is_one

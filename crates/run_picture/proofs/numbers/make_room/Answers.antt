@@ -1,8 +1,0 @@
-use Rattle.std.proofs.Common.{ℕ, List, Option, ap, ◌∙◌}
-use Rattle.run_picture.specs.inner.Known.{number_at}
-use Rattle.run_picture.proofs.Tables.{room_more}
-use Rattle.run_picture.proofs.numbers.make_room.Goals as goal
-
--- room for one task more changes nothing
-pub growing-preserved : goal.growing-preserved
-growing-preserved c = λ t. ap (λ (numbers : List (Option ℕ)). number_at numbers t) c.in_ok-push.ensures.ok ∙ (room_more c.growing.numbers t ∙ c.growing.invariant t)

@@ -1,9 +1,0 @@
-use Rattle.std.proofs.Common.{◌≡◌, ◌+◌, ◌-◌, ℕ, length}
-use Rattle.run_picture.specs.inner.Known.{number_at}
-use Rattle.run_picture.proofs.numbers.make_room.Given as goal
-
-abbrev pub invariant-growing : goal.invariant-growing
-invariant-growing l = (t : ℕ) → number_at l.numbers t ≡ number_at l.initial.numbers t
-
-abbrev pub decreases-growing : goal.decreases-growing
-decreases-growing l = l.task + 1 - length l.numbers

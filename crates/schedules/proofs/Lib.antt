@@ -1,0 +1,4 @@
+pub mod Bounds
+pub mod OneMore
+pub mod Paced
+pub mod PacedTimes

@@ -1,5 +1,0 @@
-use Rattle.seg_exec.proofs.Accesses.{may_carry_out}
-use Rattle.seg_exec.proofs.laws.accesses_are_of_the_program.Goals as goal
-
-pub returns : goal.returns
-returns c = λ p frame cells well enough. may_carry_out p well cells enough frame

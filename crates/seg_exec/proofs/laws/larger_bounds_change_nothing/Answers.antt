@@ -1,5 +1,0 @@
-use Rattle.seg_exec.proofs.steps.Bounds.{larger_bounds}
-use Rattle.seg_exec.proofs.laws.larger_bounds_change_nothing.Goals as goal
-
-pub returns : goal.returns
-returns c = larger_bounds

@@ -1,0 +1,10 @@
+pub mod Accesses
+pub mod Bounds
+pub mod CellNumbers
+pub mod CellsAfter
+pub mod Determined
+pub mod PlainLists
+pub mod Remains
+pub mod Results
+pub mod Rooms
+pub mod Without

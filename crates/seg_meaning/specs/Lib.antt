@@ -1,0 +1,12 @@
+pub mod Access
+pub mod Arithmetic
+pub mod Causes
+pub mod Cells
+pub mod Children
+pub mod Entry
+pub mod Giving
+pub mod Meaning
+pub mod Plain
+pub mod Remaining
+pub mod Segment
+pub mod Store

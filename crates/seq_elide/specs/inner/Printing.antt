@@ -1,7 +1,0 @@
--- The printed numbers of an execution.
-use Rattle.std.specs.Prelude.{ℤ, List, ◌++◌}
-use Rattle.seq_elide.specs.declared.progress.Progress.{Progress}
-
--- these numbers are printed after those before
-abbrev pub with_prints : Progress → List ℤ → Progress
-with_prints s prints = record s { prints = s.prints ++ prints }

@@ -1,7 +1,0 @@
-use Rattle.std.proofs.Common.{◌≡◌}
-use Rattle.span_profile.specs.Timetables.{jobs_below}
-use Rattle.span_profile.proofs.pacing.jobs.Given as goal
-
--- the entries up to here are there
-abbrev pub invariant-loop-entry : goal.invariant-loop-entry
-invariant-loop-entry l = l.jobs.items ≡ jobs_below l.starts l.ends l.entry

@@ -1,5 +1,0 @@
-use Rattle.twe_machine.proofs.tasks.LeftAlone.{moves_leave_alone}
-use Rattle.twe_machine.proofs.laws.a_move_leaves_the_rest_alone.Goals as goal
-
-pub returns : goal.returns
-returns c = moves_leave_alone

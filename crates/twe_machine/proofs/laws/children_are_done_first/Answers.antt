@@ -1,5 +1,0 @@
-use Rattle.twe_machine.proofs.tasks.DoneFirst.{joined_done, children_joined}
-use Rattle.twe_machine.proofs.laws.children_are_done_first.Goals as goal
-
-pub returns : goal.returns
-returns c = record { joined = joined_done; children = children_joined }

@@ -1,5 +1,0 @@
-use Rattle.twe_machine.proofs.tasks.Filled.{reached_filled}
-use Rattle.twe_machine.proofs.laws.effects_are_filled.Goals as goal
-
-pub returns : goal.returns
-returns c p st well reached = reached_filled p reached.0 st well reached.1

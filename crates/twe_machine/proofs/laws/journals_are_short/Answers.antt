@@ -1,5 +1,0 @@
-use Rattle.twe_machine.proofs.counts.AllJournals.{journal_length}
-use Rattle.twe_machine.proofs.laws.journals_are_short.Goals as goal
-
-pub returns : goal.returns
-returns c p lim journal well within legal = journal_length p lim well journal within.tasks_least legal

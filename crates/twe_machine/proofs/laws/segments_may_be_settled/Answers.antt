@@ -1,5 +1,0 @@
-use Rattle.twe_machine.proofs.standing.SettlesNext.{may_settle}
-use Rattle.twe_machine.proofs.laws.segments_may_be_settled.Goals as goal
-
-pub returns : goal.returns
-returns c = may_settle

@@ -1,5 +1,0 @@
-use Rattle.twe_machine.proofs.segment_laws.SegmentKept.{segment_keeps}
-use Rattle.twe_machine.proofs.segment_laws.segments_keep.Goals as goal
-
-pub returns : goal.returns
-returns c = segment_keeps
