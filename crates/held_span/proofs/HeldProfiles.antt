@@ -21,19 +21,22 @@ use Rattle.held_span.specs.declared.hold.Hold.{Hold}
 use Rattle.held_span.specs.declared.spanning.Spanning.{Spanning}
 use Rattle.held_span.specs.inner.Spanning.{IsSpanning, ShowsStage}
 use Rattle.held_span.specs.inner.Told.{IsTold}
-use Rattle.held_span.proofs.HeldTimes.{earliest_held}
+use Rattle.held_span.proofs.HeldTimes.{earliest_held, shares_last}
 use Rattle.held_span.proofs.Spans.{held_of, legal_counted}
 use Rattle.held_span.proofs.Told.{did_all}
 
 module _ (p : Program) (lim : Bounds) (moves : List Move) (journal : List Entry) (st : State) (run : IsCountedRun p lim moves journal st) (marks : EffectMarks) (spanning : Spanning)
     (rest : List Entry) (s : IsSpanning p lim marks st.tasks journal rest spanning) (h : Heaviest) where
-  pub told_of : AreLastBefore s.nodes h.starts h.ends h.before → IsTold st.tasks (stages p lim journal) journal spanning.notes h
-  told_of last = record {
+  pub told_of : AreEarliest (Leads SharesKey s.nodes) (weight_at weight_of s.nodes) (length s.nodes) h.span h.starts h.ends → AreLastBefore s.nodes h.starts h.ends h.before
+      → IsTold st.tasks (stages p lim journal) journal spanning.notes h
+  told_of early last = record {
     entries = did_all p lim (start_of p lim) journal (legal_counted p lim moves journal st run);
     nodes = s.nodes;
     count = zip_length (ShowsStage s.tree marks) s.nodes (stages p lim journal) s.spanned.shows;
     holders = s.noted.holders;
+    lowest = s.noted.lowest;
     makers = s.noted.makers;
+    shares = shares_last st.tasks s.tree marks s.nodes (stages p lim journal) s.spanned h.span h.starts h.ends early;
     last = last;
   }
 

@@ -13,6 +13,7 @@ use Rattle.span_profile.specs.heaviest_chain.Nodes.{Node, SharesKey, weight_of}
 use Rattle.held_span.specs.Freed.{FollowsFreed, RunEntry, stage_weight}
 use Rattle.held_span.specs.inner.Paths.{IsPath}
 use Rattle.held_span.specs.inner.Spanning.{AreSpanned, ShowsStage}
+use Rattle.held_span.specs.inner.Told.{ShareLast}
 use Rattle.held_span.proofs.Spans.{weight_same}
 
 module _ (rows : List TaskRow) (tree : List (List Part)) (marks : EffectMarks) (nodes : List Node) (stages : List RunEntry) (spanned : AreSpanned rows tree marks nodes stages)
@@ -29,6 +30,23 @@ module _ (rows : List TaskRow) (tree : List (List Part)) (marks : EffectMarks) (
       let takes = early.takes k next in
       let rest = path_ends k between j below path.1 in
       omega (arith, first, takes, rest)
+
+  -- who ends as the other starts leads there alone
+  last_by : (i : ℕ) (between : List ℕ) (j : ℕ) → j < length nodes → IsPath (Leads SharesKey nodes) i between j → slice_index ends i ≡ slice_index starts j → Leads SharesKey nodes i j
+  last_by i [] j below path until = path
+  last_by i (k ∷ between) j below path until =
+      let here = slice_get_within nodes i path.0.first path.0.at_first in
+      let next = slice_get_within nodes k path.0.second path.0.at_second in
+      let first = early.ordered i k here next path.0 in
+      let takes = early.takes k next in
+      let some = early.some k next in
+      let rest = path_ends k between j below path.1 in
+      absurd (omega (arith, first, takes, some, rest, until))
+
+  pub shares_last : ShareLast rows nodes stages starts ends
+  shares_last i j follows until =
+      let path = spanned.covers i j follows in
+      last_by i path.0 j (let there = slice_get_within stages j follows.second follows.at_second in let same = count in omega (arith, there, same)) path.1 until
 
   within : (entry : ℕ) → entry < length stages → entry < length nodes
   within entry less = let same = count in omega (arith, less, same)

@@ -18,11 +18,13 @@ mod Most
 pub mod NotedEntries
 pub mod NotedKeys
 pub mod Numbered
+pub mod OneHeld
 mod PairOrder
 pub mod Paths
 pub mod Placing
 pub mod Plans
 mod Ranked
+pub mod RisingNumbers
 pub mod Rivalry
 pub mod SharedKeys
 pub mod Sharing

@@ -1,5 +1,5 @@
 -- What is noted of the entries of a run, over a legal move.
-use Rattle.std.proofs.Common.{◌≡◌, ◌≢◌, ◌<◌, ◌+◌, ◌++◌, inl, inr, ℕ, Bool, true, false, List, [], ◌∷◌, length, length-append, Option, None, Some, IsTrue, refl, sym, ap, ◌∙◌, subst, arith}
+use Rattle.std.proofs.Common.{◌≡◌, ◌≢◌, ◌<◌, ◌≤◌, ◌+◌, ◌++◌, inl, inr, ℕ, Bool, true, false, List, [], ◌∷◌, length, length-append, Option, None, Some, IsTrue, refl, sym, ap, ◌∙◌, subst, arith}
 use Rattle.std.specs.Prelude.{slice_get}
 use Rattle.std.specs.List.{Contains}
 use Rattle.std.proofs.lemmas.Bool.{cases_eq}
@@ -29,11 +29,11 @@ use Rattle.span_profile.proofs.Lists.{contains_none}
 use Rattle.span_profile.specs.LeadsTo.{LeadsTo, conflict, gives_value, makes, same_task}
 use Rattle.span_profile.specs.Strands.{Strand, admission, made_task}
 use Rattle.span_profile.specs.heaviest_chain.Nodes.{Node, SharesKey}
-use Rattle.held_span.specs.Freed.{IsBy, RunEntry}
+use Rattle.held_span.specs.Freed.{FreesFrom, IsBy, RunEntry}
 use Rattle.held_span.specs.Holds.{MakesTask}
 use Rattle.held_span.specs.Ways.{IsOnWay}
 use Rattle.held_span.specs.declared.notes.EntryNotes.{EntryNotes}
-use Rattle.held_span.specs.inner.Noting.{AreNoted, HasBegun, MakesOrFrees, TellHolders, TellMakers, low_at, low_found, low_of, makers_after, noted}
+use Rattle.held_span.specs.inner.Noting.{AreNoted, HasBegun, MakesOrFrees, TellHolders, TellLowest, TellMakers, holder_by, low_at, low_found, low_of, makers_after, noted}
 use Rattle.held_span.proofs.Admissions.{waiter_enabled}
 use Rattle.held_span.proofs.Ancestors.{first_step}
 use Rattle.held_span.proofs.Further.{leads_cases}
@@ -142,6 +142,20 @@ module _ (rows : List TaskRow) (nodes : List Node) (stages : List RunEntry) (man
         ]
   ]
 
+  lowest_more : TellLowest rows stages lows → ((i : ℕ) (a : RunEntry) → slice_get stages i ≡ Some a → (holder : ℕ) → FreesFrom rows holder a b → holder_by a (low_of low) ≤ holder)
+      → TellLowest rows (stages ++ b ∷ []) (lows ++ low ∷ [])
+  lowest_more before new i j a e less at there holder frees = elim (get-cases stages b j e there) [
+    | inl old ↦
+        let below : j < length stages = slice_get_within stages j e old in
+        let first : i < length stages = omega (arith, less, below) in
+        subst (λ (l : ℕ). holder_by a l ≤ holder) (sym (low_kept j below)) (before i j a e less (before_last i a first at) old holder frees)
+    | inr same ↦
+        let here : j ≡ length stages = same.0 in
+        let first : i < length stages = omega (arith, less, here) in
+        subst (λ (l : ℕ). holder_by a l ≤ holder) (sym (ap (low_at (lows ++ low ∷ [])) here ∙ low_last))
+        (new i a (before_last i a first at) holder (subst (λ (s : RunEntry). FreesFrom rows holder a s) same.1 frees))
+  ]
+
 -- One entry more.
 module _ (p : Program) (lim : Bounds) (well : IsWellFormed p) (rows : List TaskRow) (st : State) (stands : Stands p lim st) (mv : Move) (end : End) (may : MayMove st mv)
     (end_is : (move_result p lim st mv).1 ≡ end) (alone : LeavesAlone p st (move_result p lim st mv).0 mv end) (nodes : List Node) (stages : List RunEntry) (many : length nodes ≡ length stages)
@@ -240,12 +254,14 @@ module _ (p : Program) (lim : Bounds) (well : IsWellFormed p) (rows : List TaskR
   counted (ends.Done value) is = counted_on (ends.Done value) is refl refl
   counted (ends.Fault kind place) is = counted_on (ends.Fault kind place) is refl refl
 
-  pub noted_more : (low : Option ℕ) → ((i : ℕ) (x : Node) (a : RunEntry) → slice_get nodes i ≡ Some x → slice_get stages i ≡ Some a → SharesKey x y → LeadsOrFrees rows (low_of low) a b)
+  pub noted_more : (low : Option ℕ) → ((i : ℕ) (a : RunEntry) → slice_get stages i ≡ Some a → (holder : ℕ) → FreesFrom rows holder a b → holder_by a (low_of low) ≤ holder)
+      → ((i : ℕ) (x : Node) (a : RunEntry) → slice_get nodes i ≡ Some x → slice_get stages i ≡ Some a → SharesKey x y → LeadsOrFrees rows (low_of low) a b)
       → AreNoted rows after (nodes ++ y ∷ []) (stages ++ b ∷ []) (noted notes end low)
-  noted_more low told = record {
+  noted_more low least told = record {
     lows_count = length-append notes.lows (low ∷ []) ∙ (ap (λ (n : ℕ). n + 1) noted_before.lows_count ∙ sym (length-append stages (b ∷ [])));
     holders = holders_more rows nodes stages many notes.lows noted_before.lows_count noted_before.holders y b low
         (λ i x a at here shared kind. admission_follows i a here (low_of low) (told i x a at here shared) kind);
+    lowest = lowest_more rows nodes stages many notes.lows noted_before.lows_count noted_before.holders y b low noted_before.lowest least;
     makers_count = (counted end refl).0;
     makers = (counted end refl).1;
     begun = begun_more;

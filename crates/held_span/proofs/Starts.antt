@@ -59,6 +59,7 @@ first_noted : (p : Program) (lim : Bounds) (rows : List TaskRow) → AreNoted ro
 first_noted p lim rows = record {
   lows_count = refl;
   holders = λ i j a b leads at there kind. absurd (cc (at));
+  lowest = λ i j a b before at there holder frees. absurd (cc (at));
   makers_count = refl;
   makers = λ task number. (λ is. absurd (no_maker task number is), λ m. absurd (let there = m.there in cc (there)));
   begun = λ number stage at. absurd (cc (at));

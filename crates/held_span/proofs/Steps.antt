@@ -1,5 +1,5 @@
 -- A run that is under way takes its next entry.
-use Rattle.std.proofs.Common.{◌≡◌, ◌≢◌, ◌<◌, ◌≤◌, ◌^◌, ◌++◌, ◌⊎◌, ℕ, List, [], ◌∷◌, length, Option, None, Some, Result, Ok, Err, refl, sym, ap, ◌∙◌, subst, arith}
+use Rattle.std.proofs.Common.{◌≡◌, ◌≢◌, ◌<◌, ◌≤◌, ◌^◌, ◌++◌, ◌⊎◌, ℕ, Bool, cond, List, [], ◌∷◌, length, Option, None, Some, Result, Ok, Err, refl, sym, ap, ◌∙◌, subst, arith}
 use Rattle.std.specs.Prelude.{OnOk, slice_get, sum_by}
 use Rattle.std.specs.List.{AllZip, Contains}
 use Rattle.std.proofs.lemmas.List.Sums.{sum_by-cons, sum_by_push}
@@ -38,7 +38,7 @@ use Rattle.span_profile.specs.heaviest_chain.Chains.{Leads}
 use Rattle.span_profile.specs.heaviest_chain.Nodes.{Node, SharesKey}
 use Rattle.span_profile.specs.heaviest_chain.Nodes as chain_nodes
 use Rattle.span_profile.specs.inner.Shows.{Shows}
-use Rattle.held_span.specs.Freed.{RunEntry, stage_weight, stages}
+use Rattle.held_span.specs.Freed.{FreesFrom, RunEntry, stage_weight, stages}
 use Rattle.held_span.specs.Ways.{IsOnWay, RowsInterfere}
 use Rattle.held_span.specs.declared.freeing.Freeing.{Freeing}
 use Rattle.held_span.specs.declared.notes.EntryNotes.{EntryNotes}
@@ -46,11 +46,11 @@ use Rattle.held_span.specs.declared.spanning.Spanning.{Spanning}
 use Rattle.held_span.specs.inner.Freeing.{IsFreed, IsNotedBy, Walks}
 use Rattle.held_span.specs.inner.Holding.{HasRoomFor, HoldsOne, IsLowestOf}
 use Rattle.held_span.specs.inner.Keys.{mark_key}
-use Rattle.held_span.specs.inner.Noting.{AreNoted, low_of, noted}
+use Rattle.held_span.specs.inner.Noting.{AreNoted, holder_by, low_of, noted}
 use Rattle.held_span.specs.inner.Paths.{IsPath}
 use Rattle.held_span.specs.inner.Spanning.{AreFollowed, AreHeld, AreLed, AreSpanned, IsEntryBy, IsSpanning, ShowsStage}
 use Rattle.held_span.specs.inner.Walking.{IsMakerOf}
-use Rattle.held_span.proofs.Admissions.{holder_waits, low_covers, made_by_waiter, walk_ways, way_covers}
+use Rattle.held_span.proofs.Admissions.{holder_waits, low_covers, made_by_waiter, waiter_holds, walk_ways, way_covers}
 use Rattle.held_span.proofs.Ancestors.{descends_up, waits_descend}
 use Rattle.held_span.proofs.Between.{weights_from}
 use Rattle.held_span.proofs.FollowedStates.{followed_made, followed_on, followed_walked}
@@ -274,6 +274,14 @@ module _ (p : Program) (lim : Bounds) (well : IsWellFormed p) (marks : EffectMar
           (IsEntryBy (stages p lim before)) (Leads SharesKey (s.nodes ++ y ∷ [])) (length s.nodes) freed.walk direct covered x (lows low refl x is)
           (subst (λ (low : Option ℕ). Walks run.freeing.ways freeing.ways low mv.task freed.walk) is freed.walks) w down other above i by
 
+      -- who holds the task is no lower than the lowest
+      least_by : (x : ℕ) (least : Option ℕ) → IsLowestOf (HoldsOne run.freeing.holders (seen_by marks mv.task)) least → HoldsOne run.freeing.holders (seen_by marks mv.task) x → low_of least ≤ x
+      least_by x None none holds = absurd (none x holds)
+      least_by x (Some y) is holds = is.1 x holds
+
+      least_holder : (x w : ℕ) → RowsInterfere rows x mv.task → IsOnWay st.links x mv.task w → low_of low ≤ x
+      least_holder x w r way = least_by x low freed.lowest (waiter_holds p lim marks rows s.plan.marks_are st stands later run.freeing.holders s.held.holds mv.task may_admit x w r way)
+
       taken_admitted : Taken
       taken_admitted = record {
         asked = asked_freed marks stage first last rows freed.walk mv.task task kind freed.keys (low_of low) asks_ways;
@@ -314,6 +322,17 @@ module _ (p : Program) (lim : Bounds) (well : IsWellFormed p) (marks : EffectMar
         (λ key has. subst (λ (n : Node). Contains n.asks key ⊎ (AsksMark marks stage key ⊎ AsksWay rows (length marks.lists) (low_of low) stage key)) (sym shown.1) (taken.asked key has))
         (λ key has. taken.asks_first key (subst (λ (n : Node). Contains n.asks key) shown.1 has)) taken.asks_seen taken.ways
 
+    -- no holder from which an entry frees the admission is lower
+    least_from : (i : ℕ) (a : RunEntry) → slice_get (stages p lim before) i ≡ Some a → (x : ℕ) → FreesFrom rows x a stage → holder_by a (low_of low) ≤ x
+    least_from i a at x (FreesFrom.by_end kind done is r) = let same : holder_by a (low_of low) ≡ a.strand.task = ap (λ (b : Bool). cond b a.strand.task (low_of low)) done in omega (arith, same, is)
+    least_from i a at x (FreesFrom.by_wait kind w r way by) =
+        let admitted = plans.admission_end p lim well marks rows before mv end rest s.plan st s.same kind in
+        let freed = (subst (λ (e : End). IsNotedBy marks after mv.task low run.freeing freeing first last e) admitted noted_here).0 in
+        let undone = never_done p lim st stands a.strand (s.noted.begun i a at) x stage.strand.task w way by in
+        let same : holder_by a (low_of low) ≡ low_of low = ap (λ (b : Bool). cond b a.strand.task (low_of low)) undone in
+        let least = least_holder admitted freed x w (subst (RowsInterfere rows x) task r) (subst (λ (t : ℕ). IsOnWay st.links x t w) task way) in
+        omega (arith, same, least)
+
     -- and what was noted
     told_last : (i : ℕ) (x : Node) (a : RunEntry) → slice_get s.nodes i ≡ Some x → slice_get (stages p lim before) i ≡ Some a → SharesKey x y → LeadsOrFrees rows (low_of low) a stage
     told_last =
@@ -326,7 +345,7 @@ module _ (p : Program) (lim : Bounds) (well : IsWellFormed p) (marks : EffectMar
         noted_more p lim well rows st stands mv end may end_is alone s.nodes (stages p lim before) same_length run.notes s.noted y stage refl
         (plans.stage_admits p lim well marks rows before mv end rest s.plan st s.same)
         (plans.stage_makes p lim well marks rows before mv end rest s.plan st s.same)
-        (plans.stage_done p lim well marks rows before mv end rest s.plan st s.same) task low told_last
+        (plans.stage_done p lim well marks rows before mv end rest s.plan st s.same) task low least_from told_last
 
     -- there is room for the entry
     pub has_room : IsWithin lim.fuel lim.tasks → HasRoom run.chains last.weight

@@ -22,8 +22,9 @@ use Rattle.machine_state.proofs.lists.Places.{below_there}
 use Rattle.span_profile.proofs.Lists.{zip_first, zip_second}
 use Rattle.span_profile.proofs.Tracking.{mover_row}
 use Rattle.span_profile.specs.declared.heaviest_chain.chains.Heaviest.{Heaviest}
+use Rattle.span_profile.specs.heaviest_chain.Chains.{Leads}
 use Rattle.span_profile.specs.heaviest_chain.LastBefore.{StartsAfter}
-use Rattle.held_span.specs.Freed.{FreesFrom, RunEntry, stage_of, stages_from}
+use Rattle.held_span.specs.Freed.{FollowsFreed, Frees, FreesFrom, RunEntry, stage_of, stages_from}
 use Rattle.held_span.specs.Holds.{AreHolds, IsHeldFor, IsHold, held_entry}
 use Rattle.held_span.specs.declared.hold.Hold.{Hold}
 use Rattle.held_span.specs.declared.notes.EntryNotes.{EntryNotes}
@@ -124,13 +125,16 @@ module _ (rows : List TaskRow) (stages : List RunEntry) (journal : List Entry) (
       this : (b : RunEntry) × (slice_get stages number ≡ Some b) × Did b entry
       this = zip_second Did stages journal number entry told.entries there
 
-      freed : StartsAfter told.nodes h.starts h.ends number (Some freed_by)
-      freed =
+      found_before : slice_get h.before number ≡ Some (Some freed_by)
+      found_before =
           let below = slice_get_within stages number this.0 this.1 in
           let count = told.count in
           let as_many = told.last.count in
           let found = below_there h.before number (omega (arith, below, count, as_many)) in
-          told.last.each number (Some freed_by) (found.1 ∙ ap Some (sym (ap before_found found.1) ∙ before))
+          found.1 ∙ ap Some (sym (ap before_found found.1) ∙ before)
+
+      freed : StartsAfter told.nodes h.starts h.ends number (Some freed_by)
+      freed = told.last.each number (Some freed_by) found_before
 
       other : (a : RunEntry) × (slice_get stages freed_by ≡ Some a)
       other =
@@ -147,12 +151,30 @@ module _ (rows : List TaskRow) (stages : List RunEntry) (journal : List Entry) (
           let last = subst (λ (m : ℕ). slice_index h.ends m ≡ slice_index h.starts number) same freed.1 in
           absurd (omega (arith, last, later, begins_is, made_is))
 
+      known : holder ≡ holder_by other.0 (low_at notes.lows number)
+      known =
+          let z = zip_first Did stages journal freed_by other.0 told.entries other.1 in
+          holder_is ∙ (ap (λ (o : Option Entry). unwrap_or (done_found o) (low_at notes.lows number)) z.1 ∙ holder_found other.0 (low_at notes.lows number) z.0 z.2)
+
       frees : FreesFrom rows holder other.0 this.0
       frees =
-          let z = zip_first Did stages journal freed_by other.0 told.entries other.1 in
-          let from = ap (λ (o : Option Entry). unwrap_or (done_found o) (low_at notes.lows number)) z.1 ∙ holder_found other.0 (low_at notes.lows number) z.0 z.2 in
-          subst (λ (n : ℕ). FreesFrom rows n other.0 this.0) (sym (holder_is ∙ from))
+          subst (λ (n : ℕ). FreesFrom rows n other.0 this.0) (sym known)
           (frees_by (told.holders freed_by number other.0 this.0 freed.0 other.1 this.1 (this.2.kind ∙ noted.0)))
+
+      -- no other entry that frees it then is earlier, and no other holder lower
+      first_freeing : (entry : ℕ) → Leads (Frees rows) stages entry number → slice_index h.ends entry ≡ slice_index h.starts number → freed_by ≤ entry
+      first_freeing entry follows until =
+          let leads : Leads (FollowsFreed rows) stages entry number =
+          record { before = follows.before; first = follows.first; second = follows.second; at_first = follows.at_first; at_second = follows.at_second; leads = inr follows.leads } in
+          told.last.first number freed_by entry found_before (told.shares entry number leads until) until
+
+      lowest_holder : (x : ℕ) → Leads (FreesFrom rows x) stages freed_by number → holder ≤ x
+      lowest_holder x from =
+          let both : Some from.first ≡ Some other.0 = sym from.at_first ∙ other.1 in
+          let same : from.first ≡ other.0 = cc (both) in
+          let least = told.lowest freed_by number from.first from.second from.before from.at_first from.at_second x from.leads in
+          let here = known ∙ ap (λ (a : RunEntry). holder_by a (low_at notes.lows number)) (sym same) in
+          omega (arith, least, here)
 
       pub is_hold : IsHold rows stages h.starts h.ends (record { entry = number; task = entry.mv.task; holder = holder; freed_by = freed_by; time = begins - made })
       is_hold = record {
@@ -165,6 +187,8 @@ module _ (rows : List TaskRow) (stages : List RunEntry) (journal : List Entry) (
         };
         frees = record { before = freed.0.before; first = other.0; second = this.0; at_first = other.1; at_second = this.1; leads = frees };
         until = freed.1;
+        first = first_freeing;
+        lowest = lowest_holder;
       }
 
 -- Holds so far.

@@ -1,11 +1,11 @@
 -- Which admissions were held, for how long and by whom, if the entries of a run start and end at these times.
-use Rattle.std.specs.Prelude.{◌≡◌, ◌<◌, ◌+◌, ℕ, List, Some, map, slice_get, slice_index}
+use Rattle.std.specs.Prelude.{◌≡◌, ◌<◌, ◌≤◌, ◌+◌, ℕ, List, Some, map, slice_get, slice_index}
 use Rattle.std.specs.List.{All, Contains}
 use Rattle.std.specs.List.Sorted.{IsStrictlyIncreasing}
 use Rattle.seg_journal.specs.declared.moves.Kind.TheVariants.{Admit}
 use Rattle.machine_state.specs.declared.state.TaskRow.{TaskRow}
 use Rattle.span_profile.specs.heaviest_chain.Chains.{Leads}
-use Rattle.held_span.specs.Freed.{FreesFrom, RunEntry}
+use Rattle.held_span.specs.Freed.{Frees, FreesFrom, RunEntry}
 use Rattle.held_span.specs.declared.hold.Hold.{Hold}
 
 -- The entry of this number admits the task.
@@ -29,11 +29,15 @@ pub record IsHeldFor (stages : List RunEntry) (starts ends : List ℕ) (number t
   pub time_is : slice_index ends maker + time ≡ slice_index starts number
   pub some : 0 < time
 
--- The admission was held for the time of the hold: until the entry ended that freed it from the holder.
+-- The admission was held for the time of the hold: until the entry ended that freed it from the holder. Of the entries that free
+-- it and end as it begins this one is the first, and of the tasks from which it frees it the holder is the lowest.
 pub record IsHold (rows : List TaskRow) (stages : List RunEntry) (starts ends : List ℕ) (hold : Hold) : Type 0 where
   pub held : IsHeldFor stages starts ends hold.entry hold.task hold.time
   pub frees : Leads (FreesFrom rows hold.holder) stages hold.freed_by hold.entry
   pub until : slice_index ends hold.freed_by ≡ slice_index starts hold.entry
+  pub first : (other : ℕ) → Leads (Frees rows) stages other hold.entry → slice_index ends other ≡ slice_index starts hold.entry
+      → hold.freed_by ≤ other
+  pub lowest : (other : ℕ) → Leads (FreesFrom rows other) stages hold.freed_by hold.entry → hold.holder ≤ other
 
 -- the number of the admission that was held
 abbrev pub held_entry : Hold → ℕ

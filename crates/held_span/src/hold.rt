@@ -7,9 +7,9 @@ pub struct Hold {
     pub entry: u64,
     /// The task that was admitted.
     pub task: u32,
-    /// The task that held it last.
+    /// The task that held it last: the lowest of those from which the entry `freed_by` freed it.
     pub holder: u32,
-    /// The number of the entry that freed it last.
+    /// The number of the first of the entries that freed it last.
     pub freed_by: u64,
     /// How long it was held: from the end of the entry that made the task to the beginning of the admission.
     pub time: u64,

@@ -3,7 +3,7 @@
 //!
 //! While a task is enabled, it holds each task that is made and whose effects interfere with its own, until it ends or comes to
 //! wait for that one. `specs/` says which entries free an admission. The held span less the span of `span_profile` is what the
-//! declared effects cost beyond what the tasks did.
+//! order of admissions adds.
 //!
 //! Marks tell which lists of effects interfere: a list leaves some marks and sees some, and one list sees a mark that another
 //! one leaves if and only if some effects of the two interfere. So whoever keeps something for each mark, instead of for each
@@ -36,7 +36,7 @@ mod ways;
 
 pub use gathered::Gathered;
 pub use hold::Hold;
-pub use laws::the_held_span_is_between;
+pub use laws::{one_held_profile, the_held_span_is_between};
 pub use mark_laws::shared_marks_tell_interference;
 pub use marks::{EffectMark, EffectMarks};
 pub use most_held::held_pairs;

@@ -11,6 +11,7 @@ mod holds;
 mod json;
 mod json_chains;
 mod json_holds;
+mod laws;
 mod paces;
 mod program;
 mod request;

@@ -29,7 +29,7 @@ pub(crate) fn answer_command<R: Threads + Wait + Sync, S: Source, G: Gate + Sync
     src: &mut S,
     gate: &G,
 ) -> Result<Reply, Memory>
-    requires { IsSized cmd.now }
+    requires sized { IsSized cmd.now }
     ensures { IfOk result (λ reply. Cause (source S.left S.faults S.read_gives) cmd.now src.old src.new reply.book reply.answer) }
 {
     let started = start_command(alloc, cmd, src)?;

@@ -2,6 +2,8 @@ pub mod Documents
 pub mod Flat
 pub mod Lists
 pub mod Nests
+pub mod OneAnswer
 pub mod OneMark
+pub mod OneShown
 pub mod Plain
 pub mod Works

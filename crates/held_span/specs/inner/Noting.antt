@@ -1,5 +1,5 @@
 -- What is noted of the entries of a run, and what it tells of its admissions.
-use Rattle.std.specs.Prelude.{◌≡◌, ◌≢◌, ◌↔◌, ◌⊎◌, ◌++◌, ℕ, List, [], ◌∷◌, Option, None, Some, IsTrue, length, if◌then◌else◌, slice_get}
+use Rattle.std.specs.Prelude.{◌≡◌, ◌≢◌, ◌<◌, ◌≤◌, ◌↔◌, ◌⊎◌, ◌++◌, ℕ, List, [], ◌∷◌, Option, None, Some, IsTrue, length, if◌then◌else◌, slice_get}
 use Rattle.seg_journal.specs.declared.journal.End.{End}
 use Rattle.seg_journal.specs.declared.journal.End.TheVariants as ends
 use Rattle.seg_journal.specs.declared.moves.Kind.{Kind}
@@ -67,6 +67,12 @@ TellHolders rows nodes stages lows =
     (i j : ℕ) (a b : RunEntry) → Leads SharesKey nodes i j → slice_get stages i ≡ Some a → slice_get stages j ≡ Some b
     → b.kind ≡ Admit → MakesOrFrees rows (low_at lows j) a b
 
+-- the holder that is known by what was noted is the lowest from which an earlier entry frees an admission
+abbrev pub TellLowest : List TaskRow → List RunEntry → List (Option ℕ) → Type 0
+TellLowest rows stages lows =
+    (i j : ℕ) (a b : RunEntry) → i < j → slice_get stages i ≡ Some a → slice_get stages j ≡ Some b
+    → (holder : ℕ) → FreesFrom rows holder a b → holder_by a (low_at lows j) ≤ holder
+
 -- the entry that made a task is noted as its maker, and no other
 abbrev pub TellMakers : List RunEntry → List (Option ℕ) → Type 0
 TellMakers stages makers = (task number : ℕ) → (slice_get makers task ≡ Some (Some number)) ↔ MakesTask stages number task
@@ -82,6 +88,7 @@ pub record HasBegun (st : State) (strand : Strand) : Type 0 where
 pub record AreNoted (rows : List TaskRow) (st : State) (nodes : List Node) (stages : List RunEntry) (notes : EntryNotes) : Type 0 where
   pub lows_count : length notes.lows ≡ length stages
   pub holders : TellHolders rows nodes stages notes.lows
+  pub lowest : TellLowest rows stages notes.lows
   pub makers_count : length notes.makers ≡ length st.tasks
   pub makers : TellMakers stages notes.makers
   pub begun : (number : ℕ) (stage : RunEntry) → slice_get stages number ≡ Some stage → HasBegun st stage.strand

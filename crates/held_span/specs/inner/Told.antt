@@ -1,18 +1,19 @@
 -- What the notes on the entries of a run and the times of their nodes tell of its holds.
-use Rattle.std.specs.Prelude.{◌≡◌, ◌<◌, ℕ, List, [], ◌∷◌, Option, None, Some, length, map, if◌then◌else◌, slice_get}
+use Rattle.std.specs.Prelude.{◌≡◌, ◌<◌, ℕ, List, [], ◌∷◌, Option, None, Some, length, map, if◌then◌else◌, slice_get, slice_index}
 use Rattle.std.specs.List.{All, AllZip, Contains}
 use Rattle.std.specs.List.Sorted.{IsStrictlyIncreasing}
 use Rattle.seg_journal.specs.declared.journal.Entry.{Entry}
 use Rattle.machine_state.specs.declared.state.TaskRow.{TaskRow}
 use Rattle.machine_state.specs.Runs.{is_done}
 use Rattle.span_profile.specs.declared.heaviest_chain.chains.Heaviest.{Heaviest}
+use Rattle.span_profile.specs.heaviest_chain.Chains.{Leads}
 use Rattle.span_profile.specs.heaviest_chain.LastBefore.{AreLastBefore}
-use Rattle.span_profile.specs.heaviest_chain.Nodes.{Node}
-use Rattle.held_span.specs.Freed.{RunEntry}
+use Rattle.span_profile.specs.heaviest_chain.Nodes.{Node, SharesKey}
+use Rattle.held_span.specs.Freed.{FollowsFreed, RunEntry}
 use Rattle.held_span.specs.Holds.{IsHeldFor, IsHold, held_entry}
 use Rattle.held_span.specs.declared.hold.Hold.{Hold}
 use Rattle.held_span.specs.declared.notes.EntryNotes.{EntryNotes}
-use Rattle.held_span.specs.inner.Noting.{TellHolders, TellMakers}
+use Rattle.held_span.specs.inner.Noting.{TellHolders, TellLowest, TellMakers}
 
 -- an entry that was looked for, if there is one
 abbrev pub before_found : Option (Option ℕ) → Option ℕ
@@ -61,6 +62,11 @@ pub record Did (stage : RunEntry) (entry : Entry) : Type 0 where
   pub task : stage.strand.task ≡ entry.mv.task
   pub done : stage.strand.done ≡ is_done entry.end
 
+-- an entry that another one follows, and that ends as this starts, has a node that shares a key with that of the other one
+abbrev pub ShareLast : List TaskRow → List Node → List RunEntry → List ℕ → List ℕ → Type 0
+ShareLast rows nodes stages starts ends =
+    (i j : ℕ) → Leads (FollowsFreed rows) stages i j → slice_index ends i ≡ slice_index starts j → Leads SharesKey nodes i j
+
 -- The entries of the journal did this, this was noted of them, and these are the times of their nodes.
 pub record IsTold (rows : List TaskRow) (stages : List RunEntry) (journal : List Entry) (notes : EntryNotes)
     (heaviest : Heaviest) : Type 0 where
@@ -68,7 +74,9 @@ pub record IsTold (rows : List TaskRow) (stages : List RunEntry) (journal : List
   pub nodes : List Node
   pub count : length nodes ≡ length stages
   pub holders : TellHolders rows nodes stages notes.lows
+  pub lowest : TellLowest rows stages notes.lows
   pub makers : TellMakers stages notes.makers
+  pub shares : ShareLast rows nodes stages heaviest.starts heaviest.ends
   pub last : AreLastBefore nodes heaviest.starts heaviest.ends heaviest.before
 
 -- These are holds of entries of lower numbers, in their order, and there is one for each of these that was held.

@@ -64,7 +64,7 @@ returns-clause-held c =
     let h = c.in_ok-heaviest.heaviest in
     let s = subst (λ (l : List Entry). IsSpanning c.args.p.now c.args.lim c.in_ok-marks.marks st.tasks l (drop i items) c.loop-entry.run)
     (take_all i items c.loop-entry-test.false ∙ c.as_slice-entry-items.ensures) c.loop-entry.invariant in
-    let told = told_of c.args.p.now c.args.lim c.args.moves.now journal st counted c.in_ok-marks.marks c.loop-entry.run (drop i items) s h (c.in_ok-heaviest.ensures.last s.nodes s.front) in
+    let told = told_of c.args.p.now c.args.lim c.args.moves.now journal st counted c.in_ok-marks.marks c.loop-entry.run (drop i items) s h (c.in_ok-heaviest.ensures.earliest s.nodes s.front) (c.in_ok-heaviest.ensures.last s.nodes s.front) in
     let all = subst (λ (l : List Entry). IsTold st.tasks (stages c.args.p.now c.args.lim journal) l c.loop-entry.run.notes h) (sym c.as_slice-2.ensures) told in
     profile_of c.args.p.now c.args.lim c.args.moves.now journal st counted c.in_ok-marks.marks c.loop-entry.run (drop i items) s h (c.in_ok-heaviest.ensures.heaviest s.nodes s.front)
     (c.in_ok-heaviest.ensures.earliest s.nodes s.front) c.in_ok-holds.holds (c.in_ok-holds.ensures st.tasks (stages c.args.p.now c.args.lim journal) all)

@@ -7,8 +7,8 @@ use Rattle.twe_cli.proofs.Causes.{cause_usage}
 use Rattle.twe_cli.proofs.top.answer.Goals as goal
 
 -- the size of a load that the words mean is in its range
-pub answer_command-requires : goal.answer_command-requires
-answer_command-requires g c = λ κs fits. means_sized c.in-Ok.ensures
+pub answer_command-requires-clause-sized : goal.answer_command-requires-clause-sized
+answer_command-requires-clause-sized g c = λ κs fits. means_sized c.in-Ok.ensures
 
 -- the words mean a command, which is answered
 pub returns-in_ok-reply-in-Ok : goal.returns-in_ok-reply-in-Ok
