@@ -12,3 +12,5 @@ pub mod Crossing
 pub mod QuietSteps
 -- A lower limit on tasks changes nothing of a run as long as fewer tasks were asked for.
 pub mod TaskLimits
+-- The run from before a round is there after it.
+pub mod Discarding

@@ -3,7 +3,7 @@
 //! It is a round under a lower limit on tasks. As long as fewer tasks were asked for than that, the journal and the state are the
 //! same under both limits. The workers stop before a task is made for which there is no room. If one was asked for all the same,
 //! the run goes on from where it was before the round.
-ghost use Rattle.std.specs.Prelude.{◌≡◌, ◌≤◌, IfOk};
+ghost use Rattle.std.specs.Prelude.{◌≡◌, ◌≤◌, ◌<◌, IfOk, Ok, length, take};
 ghost use mathlib.Core.List.{IsPrefix};
 ghost use Rattle.isolation_laws.specs.soundness.KeepsEffects.{KeepsEffects};
 ghost use Rattle.machine_state.specs.Runs.{IsRun, Legal};
@@ -53,6 +53,25 @@ pub(crate) fn round_within<R: Threads + Wait + Sync, G: Gate + Sync>(
     };
     let full = room.saturating_sub(setup.workers);
     let after = on_own_floor(rt, &lower, full, rest)?;
+    kept_or_back(setup, room, before, after)
+}
+
+/// The run after a round under a lower limit on tasks, if fewer were asked for than that. Only if as many were asked for or more,
+/// the round is discarded: the run has the first `before` entries again.
+fn kept_or_back<G>(
+    setup: &RoundSetup<'_, G>,
+    room: u32,
+    before: usize,
+    after: Rest,
+) -> Result<Rest, Memory>
+    requires lower { room < setup.now.lim.tasks }
+    requires run { IsRun setup.now.p.now (record setup.now.lim { tasks = room }) after.journal after.state }
+    requires there { before ≤ length after.journal }
+    requires legal { Legal setup.now.p.now setup.now.lim (take before after.journal) }
+    ensures kept { after.state.asked < room → result ≡ Ok after }
+    ensures back { room ≤ after.state.asked → IfOk result (λ back. back.journal ≡ take before after.journal) }
+    ensures run { IfOk result (λ run. IsRun setup.now.p.now setup.now.lim run.journal run.state) }
+{
     if after.state.asked < room {
         return Ok(after);
     }

@@ -1,11 +1,7 @@
-use Rattle.std.proofs.Common.{◌≡◌, ◌<◌, ℕ, rules, arith, sym, ap, subst, ◌∙◌, length, take}
-use Rattle.std.proofs.lemmas.Result.{IfOk-weaker}
-use Rattle.std.proofs.Math.Seq.{take-append_seam}
-use mathlib.Core.List.{IsPrefix}
-use Rattle.task_floor.specs.declared.steps.rest.Rest.{Rest}
+use Rattle.std.proofs.Common.{◌<◌, rules, arith, sym, subst}
 use Rattle.twe_base.specs.Limits.{Bounds}
-use Rattle.machine_state.specs.Runs.{IsRun}
-use Rattle.twe_rounds.proofs.Beginnings.{prefix_self}
+use Rattle.machine_state.specs.Runs.{IsRun, Legal}
+use Rattle.floor_crew.proofs.Discarding.{begins_kept, taken_back}
 use Rattle.floor_crew.proofs.TaskLimits.{run_same}
 use Rattle.floor_crew.proofs.room.round_within.Goals as goal
 
@@ -19,24 +15,18 @@ on_own_floor-requires-2-clause-run g c κs within =
     run_same c.args.setup.now.p.now lim.fuel lim.tasks c.args.room rest.journal rest.state (omega (arith, allowed, fits)) fits
     (subst (λ (l : Bounds). IsRun c.args.setup.now.p.now l rest.journal rest.state) (sym c.lim.view_is) c.requires.run)
 
--- and so it is after the round
-pub returns-then-after-room-clause-run : goal.returns-then-after-room-clause-run
-returns-then-after-room-clause-run g c =
-    let after = c.in_ok-after.after in
-    let lim = c.lim.inside in
-    let allowed : c.args.room < lim.tasks = search rules in
-    let fits : after.state.asked < c.args.room = search rules in
-    subst (λ (l : Bounds). IsRun c.args.setup.now.p.now l after.journal after.state) c.lim.view_is
-    (run_same c.args.setup.now.p.now lim.fuel c.args.room lim.tasks after.journal after.state fits (omega (arith, allowed, fits)) c.in_ok-after.ensures.run)
+-- the round was one under the lower limit
+pub kept_or_back-requires-clause-run : goal.kept_or_back-requires-clause-run
+kept_or_back-requires-clause-run g c =
+    subst (λ (l : Bounds). IsRun c.args.setup.now.p.now (record l { tasks = c.args.room }) c.in_ok-after.after.journal c.in_ok-after.after.state) c.lim.view_is c.in_ok-after.ensures.run
+
+-- the first entries after the round are those from before it
+pub kept_or_back-requires-clause-legal : goal.kept_or_back-requires-clause-legal
+kept_or_back-requires-clause-legal g c =
+    let taken = taken_back c.args.rest.journal c.in_ok-after.after.journal c.len-before.result c.len-before.ensures c.in_ok-after.ensures.begins in
+    subst (Legal c.args.setup.now.p.now c.args.setup.now.lim) (sym taken) c.requires.run.legal
 
 -- the run from before the round begins with its own journal
 pub returns-clause-begins : goal.returns-clause-begins
 returns-clause-begins g c =
-    let old = c.args.rest.journal in
-    let new = c.in_ok-after.after.journal in
-    let begins : IsPrefix old new = c.in_ok-after.ensures.begins in
-    let first : take (length old) new ≡ old = ap (take (length old)) (sym begins.1) ∙ take-append_seam old begins.0 in
-    let taken : take c.len-before.result c.as_slice.result.now ≡ old
-    = ap (λ (n : ℕ). take n c.as_slice.result.now) c.len-before.ensures ∙ (ap (take (length old)) c.as_slice.ensures ∙ first) in
-    IfOk-weaker c.go_back.result (λ (back : Rest). back.journal ≡ take c.len-before.result c.as_slice.result.now) (λ (back : Rest). IsPrefix old back.journal)
-    (λ back same. subst (IsPrefix old) (sym (same ∙ taken)) (prefix_self old)) c.go_back.ensures.same
+    begins_kept c.args.rest.journal c.in_ok-after.after c.len-before.result c.args.room c.kept_or_back.result c.len-before.ensures c.in_ok-after.ensures.begins c.kept_or_back.ensures.kept c.kept_or_back.ensures.back
