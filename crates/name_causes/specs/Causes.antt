@@ -9,7 +9,7 @@ use Rattle.twe_ast.specs.declared.item.Item.TheVariants.{Regions, Cell, Method, 
 use Rattle.name_check.specs.declared.names.GlobalName.{GlobalName}
 use Rattle.name_check.specs.declared.rule.NRule.{NRule}
 use Rattle.name_check.specs.declared.rule.NRule.TheVariants.{N2, N7}
-use Rattle.name_check.specs.FailsName.{IsDeclaredAgain}
+use Rattle.name_check.specs.FailsName.{FailsName, IsDeclaredAgain}
 use Rattle.name_check.specs.cell_limits.GoesOver.{cells_of, GoesOver}
 use Rattle.name_check.specs.cell_limits.Nodes.{declared_size}
 use Rattle.name_causes.specs.declared.need.NameLimit.TheVariants.{Cells}
@@ -41,11 +41,11 @@ cells_up_to place sum (item ∷ items) =
     then sum + cells_made_by item
     else cells_up_to place (sum + cells_made_by item) items
 
--- The text needs this at the place, and by the rule what is there does not do for it.
+-- The rule fails at the place: the text needs this there, and by the rule what is there does not do for it.
 pub data IsNameCause (ast : Ast) (rule : NRule) (place : Place) : NameNeed → Type 0 where
   -- it is one of what the text needs at its places
-  needed : (placed : PlacedNeed) → Contains (needs_of_text ast) placed → placed.place ≡ place → breaks rule placed.need ≡ true
-      → IsNameCause ast rule place placed.need
+  needed : (placed : PlacedNeed) → FailsName ast rule place → Contains (needs_of_text ast) placed → placed.place ≡ place
+      → breaks rule placed.need ≡ true → IsNameCause ast rule place placed.need
   -- a global name has to be new
   again : (name : GlobalName) → IsDeclaredAgain ast name → name.place ≡ place → rule ≡ N2 → IsNameCause ast rule place Again
   -- a declaration brings the number of cells, or that of nodes, over its limit

@@ -18,7 +18,7 @@ returns-in-Some c =
     subst (λ (o : Option NameNeed). IfSome o (IsBrokenAmong c.args.rule c.args.place c.as_slice.result.now)) c.in-Some.is c.first_broken-found.ensures.found in
     let among = subst (λ (xs : List PlacedNeed). IsBrokenAmong c.args.rule c.args.place xs c.in-Some.need) needs found in
     subst (λ (need : NameNeed). IsNameCause ast c.args.rule c.args.place need) (sym among.3)
-    (IsNameCause.needed among.0 among.1 among.2.0 among.2.1)
+    (IsNameCause.needed among.0 c.requires.fails among.1 among.2.0 among.2.1)
 
 -- none does
 pub rest_cause-requires : goal.rest_cause-requires
