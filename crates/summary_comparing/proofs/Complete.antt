@@ -36,7 +36,7 @@ need-said p m need decl (called n its callee args inner has needed) there =
     subst (λ (d : Decl). AreSaid d.params (map (settled_elem its.params) (filled_need args inner).elems)) same (settled-said its.params (filled_need args inner).elems)
 
 module _ (p : Program) (target : Need) (states : List SearchState)
-    (done : (at : ℕ) (state : SearchState) → slice_get states at ≡ Some state → IsDoneWith (all_bodies p) target states state) where
+    (done : (at : ℕ) (state : SearchState) → slice_get states at ≡ Some state → IsDoneWith (all_bodies p) target states at state) where
   -- the body of a method in a state
   here-done : (m : ℕ) (decl : Decl) (at : ℕ) (state : SearchState) → slice_get p.methods m ≡ Some decl → slice_get states at ≡ Some state → state.method ≡ m
       → slice_get (all_bodies p) state.method ≡ Some (body_steps p decl)
@@ -67,7 +67,7 @@ module _ (p : Program) (target : Need) (states : List SearchState)
 
 -- in the first state the need stands for itself
 pub not-needed : (p : Program) (method : ℕ) (target : Need) (states : List SearchState) → IsStarted (all_bodies p) method states
-    → ((at : ℕ) (state : SearchState) → slice_get states at ≡ Some state → IsDoneWith (all_bodies p) target states state) → ¬ IsNeed p method target
+    → ((at : ℕ) (state : SearchState) → slice_get states at ≡ Some state → IsDoneWith (all_bodies p) target states at state) → ¬ IsNeed p method target
 not-needed p method target states started done needed =
     let decl = need-decl p method target needed in
     let body_is : started.body ≡ body_steps p decl.0 = same_Some _ _ (sym started.body_there ∙ mapped-at (body_steps p) p.methods method decl.0 decl.1) in

@@ -4,7 +4,9 @@ pub mod Carried
 pub mod Places
 pub mod Linked
 pub mod Complete
+pub mod Depths
 pub mod Walking
+pub mod Shortest
 -- What is declared, beside what is needed.
 pub mod Covers
 pub mod Tops

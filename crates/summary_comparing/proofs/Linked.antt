@@ -14,7 +14,7 @@ use Rattle.summary_comparing.specs.declared.bodies.BodySteps.{BodySteps}
 use Rattle.summary_comparing.specs.declared.states.SearchState.{SearchState}
 use Rattle.summary_comparing.specs.Placed.{all_bodies, body_steps}
 use Rattle.summary_comparing.specs.inner.Standing.{callee_values}
-use Rattle.summary_comparing.specs.inner.Search.{AreCalledWith, AreDone, AreLinked, CallsListed, IsDoneWith, IsLinked, IsListed, IsStarted, IsStateAt, StatesGrow}
+use Rattle.summary_comparing.specs.inner.Search.{AreCalledWith, AreDone, AreLinked, CallsListed, ComeInOrder, IsDoneWith, IsLinked, IsListed, IsStarted, IsStateAt, StatesGrow}
 use Rattle.summary_comparing.proofs.Elements.{callee-length, own-length}
 
 nil-right : {X : Type 0} (xs : List X) → xs ++ [] ≡ xs
@@ -57,6 +57,27 @@ mapped-at f [] k x there = absurd (cc)
 mapped-at f (y ∷ xs) zero x there = ap (λ w. Some (f w)) (same_Some y x there)
 mapped-at f (y ∷ xs) (suc k) x there = mapped-at f xs k x there
 
+-- a state more, which comes from the last one that others come from
+pub order-push : (states : List SearchState) (new : SearchState) (upto : ℕ) → ComeInOrder states upto → new.from ≡ upto → ComeInOrder (states ++ new ∷ []) upto
+order-push states new upto order from = record {
+  in_order = λ at further state other above below there here. elim (at-push states new further other here) [
+    | inl old ↦ order.in_order at further state other above below (before-push at further other old below state there) old
+    | inr last ↦ elim (at-push states new at state there) [
+      | inl old ↦ let within = order.within at state old in let same = ap (λ (s : SearchState). s.from) last.1 in omega (arith, within, same, from)
+      | inr same ↦ let one = ap (λ (s : SearchState). s.from) same.1 in let two = ap (λ (s : SearchState). s.from) last.1 in omega (arith, one, two)
+    ]
+  ];
+  within = λ at state there. elim (at-push states new at state there) [
+    | inl old ↦ order.within at state old
+    | inr last ↦ let same = ap (λ (s : SearchState). s.from) last.1 in omega (arith, same, from)
+  ];
+} where
+  before-push : (at further : ℕ) (other : SearchState) → slice_get states further ≡ Some other → at ≤ further → (state : SearchState)
+      → slice_get (states ++ new ∷ []) at ≡ Some state → slice_get states at ≡ Some state
+  before-push at further other old below state there =
+      let inside = slice_get_within states further other old in
+      at-before states (new ∷ []) at state (omega (arith, inside, below)) there
+
 module _ (bodies : List BodySteps) (target : Need) where
   -- a link stays one
   link-stays : (states more : List SearchState) (at : ℕ) (state : SearchState) → IsLinked bodies target states at state → IsLinked bodies target (states ++ more) at state
@@ -96,11 +117,11 @@ module _ (bodies : List BodySteps) (target : Need) where
   }
 
   -- what is listed stays so
-  pub listed-stays : (old new : List SearchState) (values : List (Option Elem)) (callee : ℕ) (args : List Elem) → StatesGrow bodies target old new
-      → IsListed bodies target old values callee args → IsListed bodies target new values callee args
-  listed-stays old new values callee args grows listed body there =
+  pub listed-stays : (old new : List SearchState) (caller : ℕ) (values : List (Option Elem)) (callee : ℕ) (args : List Elem) → StatesGrow bodies target old new
+      → IsListed bodies target old caller values callee args → IsListed bodies target new caller values callee args
+  listed-stays old new caller values callee args grows listed body there =
       let found = listed body there in
-      (found.0, found.1, subst (λ (ss : List SearchState). slice_get ss found.0 ≡ Some found.1) (sym grows.longer.1) (still-at old grows.longer.0 found.0 found.1 found.2), found.3, found.4)
+      (found.0, found.1, subst (λ (ss : List SearchState). slice_get ss found.0 ≡ Some found.1) (sym grows.longer.1) (still-at old grows.longer.0 found.0 found.1 found.2), found.3, found.4, found.5)
 
   pub state-stays : (old new : List SearchState) (at : ℕ) (values : List (Option Elem)) (steps : List BodyStep) → StatesGrow bodies target old new
       → IsStateAt bodies old at values steps → IsStateAt bodies new at values steps
@@ -114,35 +135,35 @@ module _ (bodies : List BodySteps) (target : Need) where
   }
 
   -- the state in which a method is called so, found or added
-  pub listed-at : (states : List SearchState) (values : List (Option Elem)) (callee : ℕ) (args : List Elem) (body : BodySteps) (at : ℕ) (state : SearchState)
+  pub listed-at : (states : List SearchState) (caller : ℕ) (values : List (Option Elem)) (callee : ℕ) (args : List Elem) (body : BodySteps) (at : ℕ) (state : SearchState)
       → slice_get bodies callee ≡ Some body → slice_get states at ≡ Some state → state.method ≡ callee
-      → state.values ≡ callee_values values target.elems args body.params → IsListed bodies target states values callee args
-  listed-at states values callee args body at state is there method same other other_is =
+      → state.values ≡ callee_values values target.elems args body.params → state.from ≤ caller → IsListed bodies target states caller values callee args
+  listed-at states caller values callee args body at state is there method same earlier other other_is =
       let one : body ≡ other = same_Some _ _ (sym is ∙ other_is) in
-      (at, state, there, method, subst (λ (b : BodySteps). state.values ≡ callee_values values target.elems args b.params) one same)
+      (at, state, there, method, subst (λ (b : BodySteps). state.values ≡ callee_values values target.elems args b.params) one same, earlier)
 
-  pub listed-none : (states : List SearchState) (values : List (Option Elem)) (callee : ℕ) (args : List Elem) → slice_get bodies callee ≡ None → IsListed bodies target states values callee args
-  listed-none states values callee args none body is = absurd (none-some (sym none ∙ is)) where
+  pub listed-none : (states : List SearchState) (caller : ℕ) (values : List (Option Elem)) (callee : ℕ) (args : List Elem) → slice_get bodies callee ≡ None → IsListed bodies target states caller values callee args
+  listed-none states caller values callee args none body is = absurd (none-some (sym none ∙ is)) where
     none-some : {X : Type 0} {x : X} → ◌≡◌ {A = Option X} None (Some x) → ⊥
     none-some e = absurd (cc)
 
   -- the states of one step more
-  pub listed-more : (old new : List SearchState) (values : List (Option Elem)) (steps : List BodyStep) (at callee : ℕ) (args : List Elem) → StatesGrow bodies target old new
-      → CallsListed bodies target old values steps at → slice_get steps at ≡ Some (Call callee args) → IsListed bodies target new values callee args
-      → CallsListed bodies target new values steps (at + 1)
-  listed-more old new values steps at callee args grows listed is one k other others below there = elim (cases_lt k at) [
-    | inl before ↦ listed-stays old new values other others grows (listed k other others before there)
+  pub listed-more : (old new : List SearchState) (caller : ℕ) (values : List (Option Elem)) (steps : List BodyStep) (at callee : ℕ) (args : List Elem) → StatesGrow bodies target old new
+      → CallsListed bodies target old caller values steps at → slice_get steps at ≡ Some (Call callee args) → IsListed bodies target new caller values callee args
+      → CallsListed bodies target new caller values steps (at + 1)
+  listed-more old new caller values steps at callee args grows listed is one k other others below there = elim (cases_lt k at) [
+    | inl before ↦ listed-stays old new caller values other others grows (listed k other others before there)
     | inr past ↦
         let last : k ≡ at = omega (arith, past, below) in
         let same : Call callee args ≡ Call other others = same_Some _ _ (sym is ∙ (ap (slice_get steps) (sym last) ∙ there)) in
         let number : callee ≡ other = cc in
         let elems : args ≡ others = cc in
-        subst (λ (xs : List Elem). IsListed bodies target new values other xs) elems (subst (λ (i : ℕ). IsListed bodies target new values i args) number one)
+        subst (λ (xs : List Elem). IsListed bodies target new caller values other xs) elems (subst (λ (i : ℕ). IsListed bodies target new caller values i args) number one)
   ]
 
-  pub listed-skip : (states : List SearchState) (values : List (Option Elem)) (steps : List BodyStep) (at : ℕ) (need : Need)
-      → CallsListed bodies target states values steps at → slice_get steps at ≡ Some (Touch need) → CallsListed bodies target states values steps (at + 1)
-  listed-skip states values steps at need listed is k other others below there = elim (cases_lt k at) [
+  pub listed-skip : (states : List SearchState) (caller : ℕ) (values : List (Option Elem)) (steps : List BodyStep) (at : ℕ) (need : Need)
+      → CallsListed bodies target states caller values steps at → slice_get steps at ≡ Some (Touch need) → CallsListed bodies target states caller values steps (at + 1)
+  listed-skip states caller values steps at need listed is k other others below there = elim (cases_lt k at) [
     | inl before ↦ listed k other others before there
     | inr past ↦
         let last : k ≡ at = omega (arith, past, below) in
@@ -157,16 +178,26 @@ module _ (bodies : List BodySteps) (target : Need) where
 
   -- one state more is done with
   pub done-more : (old new : List SearchState) (at : ℕ) → StatesGrow bodies target old new → at < length old → AreDone bodies target old at
-      → ((state : SearchState) → slice_get old at ≡ Some state → IsDoneWith bodies target new state) → AreDone bodies target new (at + 1)
+      → ((state : SearchState) → slice_get old at ≡ Some state → IsDoneWith bodies target new at state) → AreDone bodies target new (at + 1)
   done-more old new at grows inside done one k state below there =
       let before : slice_get old k ≡ Some state =
       at-before old grows.longer.0 k state (omega (arith, below, inside)) (subst (λ (ss : List SearchState). slice_get ss k ≡ Some state) grows.longer.1 there) in
       elim (cases_lt k at) [
         | inl earlier ↦ λ body is.
             let so = done k state earlier before body is in
-            (so.0, λ j callee args calls. listed-stays old new state.values callee args grows (so.1 j callee args calls))
-        | inr past ↦ let last : k ≡ at = omega (arith, past, below) in one state (ap (slice_get old) (sym last) ∙ before)
+            (so.0, λ j callee args calls. listed-stays old new k state.values callee args grows (so.1 j callee args calls))
+        | inr past ↦
+            let last : k ≡ at = omega (arith, past, below) in
+            subst (λ (i : ℕ). IsDoneWith bodies target new i state) (sym last) (one state (ap (slice_get old) (sym last) ∙ before))
       ]
+
+  -- those that are done with stay so
+  pub done-grown : (old new : List SearchState) (at : ℕ) → StatesGrow bodies target old new → at < length old → AreDone bodies target old at → AreDone bodies target new at
+  done-grown old new at grows inside done k state below there body is =
+      let before : slice_get old k ≡ Some state =
+      at-before old grows.longer.0 k state (omega (arith, below, inside)) (subst (λ (ss : List SearchState). slice_get ss k ≡ Some state) grows.longer.1 there) in
+      let so = done k state below before body is in
+      (so.0, λ j callee args calls. listed-stays old new k state.values callee args grows (so.1 j callee args calls))
 
   -- the only state is the first
   pub one-linked : (states : List SearchState) → length states ≡ 1 → AreLinked bodies target states

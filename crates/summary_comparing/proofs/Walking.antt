@@ -1,5 +1,5 @@
 -- From an access that was found back to the first state.
-use Rattle.std.proofs.Common.{◌≡◌, ◌⊎◌, ◌<◌, ℕ, true, List, [], ◌∷◌, ◌++◌, map, length, Option, None, Some, inl, inr, refl, sym, ap, ◌∙◌, subst, arith}
+use Rattle.std.proofs.Common.{◌≡◌, ◌⊎◌, ◌<◌, ◌+◌, ℕ, suc, true, List, [], ◌∷◌, ◌++◌, map, length, Option, None, Some, inl, inr, refl, sym, ap, ◌∙◌, subst, arith}
 use Rattle.std.specs.Prelude.{option_to_list, slice_get}
 use Rattle.std.proofs.lemmas.Option.{same_Some, slice_get_within}
 use Rattle.twe_base.specs.declared.place.Place.{Place}
@@ -15,12 +15,13 @@ use Rattle.summary_comparing.specs.declared.states.SearchState.{SearchState}
 use Rattle.summary_comparing.specs.Placed.{HasStepAt, all_bodies, body_steps}
 use Rattle.summary_comparing.specs.Chains.{LeadsToNeed}
 use Rattle.summary_comparing.specs.inner.Standing.{callee_values, is_match, own_values}
-use Rattle.summary_comparing.specs.inner.Search.{AreLinked, IsFoundAt, IsLinked, IsStarted}
+use Rattle.summary_comparing.specs.inner.Search.{AreLinked, IsDeep, IsFoundAt, IsLinked, IsStarted}
 use Rattle.summary_comparing.specs.inner.Walking.{place_in_body, place_of_step}
 use Rattle.summary_comparing.proofs.Carried.{AreSaid, match-carried, match-settled, own-match, settled-said}
 use Rattle.summary_comparing.proofs.Places.{body-place, step-at}
 use Rattle.summary_comparing.proofs.Linked.{at-mapped, mapped-at, values-long}
 use Rattle.summary_comparing.proofs.Complete.{need-said}
+use Rattle.summary_comparing.proofs.Depths.{one-depth}
 use Rattle.std.specs.List.{Contains}
 use Rattle.twe_base.proofs.Members.{in-contains}
 use Rattle.effect_infer.proofs.needs.Relation.{get-in}
@@ -34,13 +35,15 @@ lead-need p m need places (LeadsToNeed.access n decl inner place is at) = own n 
 lead-need p m need places (LeadsToNeed.call n decl callee args inner place rest is at leads) =
     called n decl callee args inner (is, at-contains _ _ at.number at.step_there) (lead-need p callee inner rest leads)
 
--- the places so far lead from the method of this state to what stands for the need there
-pub record HasCome (p : Program) (target : Need) (states : List SearchState) (now : ℕ) (back : List Place) : Type 0 where
+-- The places so far lead from the method of this state to what stands for the need there. They are those of the calls from this
+-- state to the one that was found, and that of the access.
+pub record HasCome (p : Program) (target : Need) (states : List SearchState) (found now : ℕ) (back : List Place) : Type 0 where
   pub state : SearchState
   pub state_there : slice_get states now ≡ Some state
   pub need : Need
   pub leads : LeadsToNeed p state.method need back
   pub matches : is_match state.values need target ≡ true
+  pub calls : (depth all : ℕ) → IsDeep states now depth → IsDeep states found all → length back + depth ≡ all + 1
 
 module _ (p : Program) (target : Need) (method : ℕ) (states : List SearchState) (started : IsStarted (all_bodies p) method states) (linked : AreLinked (all_bodies p) target states) where
   -- the step of a state's method, with its place
@@ -55,7 +58,7 @@ module _ (p : Program) (target : Need) (method : ℕ) (states : List SearchState
       )
 
   -- the access that was found
-  pub come-start : (at step : ℕ) → IsFoundAt (all_bodies p) target states at step → HasCome p target states at (option_to_list (place_of_step (all_bodies p) (slice_get states at) step) ++ [])
+  pub come-start : (at step : ℕ) → IsFoundAt (all_bodies p) target states at step → HasCome p target states at at (option_to_list (place_of_step (all_bodies p) (slice_get states at) step) ++ [])
   come-start at step found =
       let state = found.0 in
       let decl = at-mapped (body_steps p) p.methods state.method found.1 found.3 in
@@ -70,12 +73,17 @@ module _ (p : Program) (target : Need) (method : ℕ) (states : List SearchState
         leads = subst (λ (o : Option Place). LeadsToNeed p state.method (settled decl.0.params match_at.0) (option_to_list o ++ [])) (sym at_place.1)
             (LeadsToNeed.access state.method decl.0 match_at.0 at_place.0 decl.1 at_place.2);
         matches = match-settled state.values decl.0.params match_at.0 target long ∙ match_at.2;
+        calls = λ depth all deep far.
+            let same : depth ≡ all = one-depth states at depth all deep far in
+            let one : length (at_place.0 ∷ []) ≡ 1 = refl in
+            let here : length (at_place.0 ∷ []) + depth ≡ all + 1 = omega (arith, same, one) in
+            subst (λ (o : Option Place). length (option_to_list o ++ []) + depth ≡ all + 1) (sym at_place.1) here;
       }
 
   -- one call back
-  pub come-back : (now : ℕ) (back : List Place) (state : SearchState) → HasCome p target states now back → slice_get states now ≡ Some state → 0 < now
-      → HasCome p target states state.from (option_to_list (place_of_step (all_bodies p) (slice_get states state.from) state.step) ++ back)
-  come-back now back state come there above = elim (linked now state there) [
+  pub come-back : (found now : ℕ) (back : List Place) (state : SearchState) → HasCome p target states found now back → slice_get states now ≡ Some state → 0 < now
+      → HasCome p target states found state.from (option_to_list (place_of_step (all_bodies p) (slice_get states state.from) state.step) ++ back)
+  come-back found now back state come there above = elim (linked now state there) [
     | inl first ↦ absurd (omega (arith, above, first))
     | inr link ↦
         let same : come.state ≡ state = same_Some _ _ (sym come.state_there ∙ there) in
@@ -101,12 +109,17 @@ module _ (p : Program) (target : Need) (method : ℕ) (states : List SearchState
               (LeadsToNeed.call caller.method decl.0 state.method link.args come.need at_place.0 back decl.1 at_place.2 leads);
           matches = sym (match-carried caller.values link.args decl.0.params callee.0.params come.need target long said)
               ∙ (ap (λ (vs : List (Option Elem)). is_match vs come.need target) (sym values) ∙ matches);
+          calls = λ depth all deep far.
+              let before : length back + suc depth ≡ all + 1 = come.calls (suc depth) all (above, state, there, deep) far in
+              let one : length (at_place.0 ∷ back) ≡ suc (length back) = refl in
+              let here : length (at_place.0 ∷ back) + depth ≡ all + 1 = omega (arith, before, one) in
+              subst (λ (o : Option Place). length (option_to_list o ++ back) + depth ≡ all + 1) (sym at_place.1) here;
         }
   ]
 
   -- at the first state
-  pub come-home : (now : ℕ) (back : List Place) → now ≡ 0 → HasCome p target states now back → LeadsToNeed p method target back
-  come-home now back first come =
+  pub come-home : (found now : ℕ) (back : List Place) → now ≡ 0 → HasCome p target states found now back → LeadsToNeed p method target back
+  come-home found now back first come =
       let same : come.state ≡ started.state = same_Some _ _ (sym come.state_there ∙ (ap (slice_get states) first ∙ started.state_there)) in
       let leads : LeadsToNeed p method come.need back =
       subst (λ (m : ℕ). LeadsToNeed p m come.need back) (ap (λ (s : SearchState). s.method) same ∙ started.method_is) come.leads in

@@ -15,7 +15,7 @@ use Rattle.effect_infer.specs.declared.needs.need.Need.{Need}
 use Rattle.effect_infer.specs.declared.needs.need.BodyStep.{BodyStep}
 use Rattle.effect_infer.specs.declared.needs.need.BodyStep.TheVariants.{Touch, Call}
 use Rattle.effect_infer.specs.needs.Needs.{IsNeed, effect_of}
-use Rattle.summary_comparing.specs.Chains.{LeadsToNeed}
+use Rattle.summary_comparing.specs.Chains.{IsShortestChain}
 use Rattle.summary_comparing.specs.Placed.{HasStepAt}
 use Rattle.summary_comparing.specs.Needed.{said_effect, said_spawn}
 use Rattle.summary_comparing.specs.Widest.{AreFewWidest}
@@ -31,10 +31,10 @@ chain_to_access places = record { places = places; declared = false }
 abbrev pub chain_to_clause : List Place → NeedChain
 chain_to_clause places = record { places = places; declared = true }
 
--- a call at this place of the method with this number leads on to an effect of that method by this chain
+-- a call at this place of the method with this number leads on to an effect of that method by this chain, which is a shortest one
 pub data IsCallChain (p : Program) (method : ℕ) (its : Effect) (place : Place) : NeedChain → Type 0 where
   -- the method needs it
-  needed : (need : Need) (places : List Place) → its ≡ effect_of need → LeadsToNeed p method need places
+  needed : (need : Need) (places : List Place) → its ≡ effect_of need → IsShortestChain p method need places
       → IsCallChain p method its place (chain_to_access (place ∷ places))
   -- the method only declares it
   declared : ((need : Need) → its ≡ effect_of need → ¬ IsNeed p method need)

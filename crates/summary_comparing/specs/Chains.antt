@@ -1,5 +1,5 @@
 -- Chains of calls that lead from a method to an access.
-use Rattle.std.specs.Prelude.{◌≡◌, ℕ, List, [], ◌∷◌, Some, slice_get}
+use Rattle.std.specs.Prelude.{◌≡◌, ◌≤◌, ℕ, List, [], ◌∷◌, Some, length, slice_get}
 use Rattle.twe_base.specs.declared.place.Place.{Place}
 use Rattle.region_paths.specs.declared.elements.Elem.{Elem}
 use Rattle.twe_program.specs.declared.program.Decl.{Decl}
@@ -18,3 +18,8 @@ pub data LeadsToNeed (p : Program) : ℕ → Need → List Place → Type 0 wher
   call : (m : ℕ) (decl : Decl) (callee : ℕ) (args : List Elem) (need : Need) (place : Place) (places : List Place)
       → slice_get p.methods m ≡ Some decl → HasStepAt p decl (Call callee args) place → LeadsToNeed p callee need places
       → LeadsToNeed p m (settled decl.params (filled_need args need)) (place ∷ places)
+
+-- a shortest chain that leads from the method to the need: no other one has fewer places
+pub record IsShortestChain (p : Program) (method : ℕ) (need : Need) (places : List Place) : Type 0 where
+  pub leads : LeadsToNeed p method need places
+  pub shortest : (others : List Place) → LeadsToNeed p method need others → length places ≤ length others

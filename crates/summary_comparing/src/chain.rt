@@ -4,7 +4,7 @@ ghost use Rattle.effect_sets.specs.Filled.{fill_effect};
 ghost use Rattle.effect_infer.specs.declared.needs.need.Need.{Need as Named};
 ghost use Rattle.effect_infer.specs.declared.needs.need.BodyStep.TheVariants.{Call};
 ghost use Rattle.effect_infer.specs.needs.Needs.{IsNeed, effect_of};
-ghost use Rattle.summary_comparing.specs.Chains.{LeadsToNeed};
+ghost use Rattle.summary_comparing.specs.Chains.{IsShortestChain};
 ghost use Rattle.effect_sets.specs.declared.effects.Effect.{Effect as WideEffect};
 ghost use Rattle.effect_check.specs.Acts.{acts_in_all};
 ghost use Rattle.effect_infer.specs.needs.Steps.{steps_in_all};
@@ -51,7 +51,7 @@ fn need_of(alloc: Global, its: &Effect) -> Result<Option<Need>, Memory>
     }))
 }
 
-/// A chain of calls that leads from the method to an access that is this effect, if the method needs it.
+/// A shortest chain of calls that leads from the method to an access that is this effect, if the method needs it.
 fn method_chain(
     alloc: Global,
     p: &Prog,
@@ -61,7 +61,7 @@ fn method_chain(
 ) -> Result<Option<Places>, Memory>
     requires { bodies.now ≡ all_bodies p.now }
     ensures some { IfOk result (λ found. IfSome found (λ places. (need : Named) × (its.now ≡ effect_of need)
-        × LeadsToNeed p.now method need places)) }
+        × IsShortestChain p.now method need places)) }
     ensures none { IfOk result (λ found. IfNone found ((need : Named) → its.now ≡ effect_of need
         → ¬ IsNeed p.now method need)) }
 {

@@ -3,9 +3,9 @@ ghost use Rattle.std.specs.Prelude.{◌≡◌, ◌<◌, ◌∷◌, [], length, S
 ghost use Rattle.effect_infer.specs.needs.Needs.{IsNeed};
 ghost use Rattle.summary_comparing.specs.declared.states.SearchState.{SearchState as Named};
 ghost use Rattle.summary_comparing.specs.Placed.{all_bodies};
-ghost use Rattle.summary_comparing.specs.Chains.{LeadsToNeed};
+ghost use Rattle.summary_comparing.specs.Chains.{IsShortestChain};
 ghost use Rattle.summary_comparing.specs.inner.Standing.{same_value, same_values};
-ghost use Rattle.summary_comparing.specs.inner.Search.{AreLinked, CallsListed, HasNoMatch, IsDoneWith, IsFoundAt, IsListed, IsMatchAt, IsStarted, IsStateAt, SearchEnds, StatesGrow};
+ghost use Rattle.summary_comparing.specs.inner.Search.{AreLinked, CallsListed, ComeInOrder, HasNoMatch, IsDoneWith, IsFirstFound, IsFoundAt, IsListed, IsMatchAt, IsStarted, IsStateAt, SearchEnds, StatesGrow};
 ghost use Rattle.effect_infer.specs.declared.needs.need.BodyStep.TheVariants.{Call};
 
 use crate::bodies::{BodySteps, Places};
@@ -73,8 +73,10 @@ fn push_callee(
 ) -> Result<(), Memory>
     requires here { IsStateAt bodies.now states.old at values.now steps.now }
     requires called { slice_get steps.now step ≡ Some (Call callee args.now) }
+    requires order { ComeInOrder states.old at }
     ensures grows { OnOk result (StatesGrow bodies.now target.now states.old states.new) }
-    ensures listed { OnOk result (IsListed bodies.now target.now states.new values.now callee args.now) }
+    ensures order { OnOk result (ComeInOrder states.new at) }
+    ensures listed { OnOk result (IsListed bodies.now target.now states.new at values.now callee args.now) }
 {
     let _ = steps;
     let Some(body) = bodies.get(callee as usize) else {
@@ -105,8 +107,10 @@ fn push_callees(
     steps: &[BodyStep],
 ) -> Result<(), Memory>
     requires here { IsStateAt bodies.now states.old at values.now steps.now }
+    requires order { ComeInOrder states.old at }
     ensures grows { OnOk result (StatesGrow bodies.now target.now states.old states.new) }
-    ensures listed { OnOk result (CallsListed bodies.now target.now states.new values.now steps.now (length steps.now)) }
+    ensures order { OnOk result (ComeInOrder states.new at) }
+    ensures listed { OnOk result (CallsListed bodies.now target.now states.new at values.now steps.now (length steps.now)) }
 {
     for (step, each) in steps.iter().enumerate() {
         match each {
@@ -154,11 +158,13 @@ fn look_at(
     target: &Need,
     at: usize,
 ) -> Result<Option<usize>, Memory>
-    requires { at < length states.old }
+    requires inside { at < length states.old }
+    requires order { ComeInOrder states.old at }
     ensures grows { OnOk result (StatesGrow bodies.now target.now states.old states.new) }
+    ensures order { OnOk result (ComeInOrder states.new at) }
     ensures found { IfOk result (λ found. IfSome found (IsFoundAt bodies.now target.now states.new at)) }
     ensures none { IfOk result (λ found. IfNone found ((state : Named) → slice_get states.old at ≡ Some state
-        → IsDoneWith bodies.now target.now states.new state)) }
+        → IsDoneWith bodies.now target.now states.new at state)) }
 {
     let state = &states.as_slice()[at];
     let method = state.method;
@@ -185,15 +191,18 @@ fn look_at(
     }
 }
 
-/// Looks at one state after the other, until an access stands for what is looked for, or no state is left.
+/// Looks at one state after the other, until an access stands for what is looked for, or no state is left. So the access that is
+/// found is one to which fewest calls lead.
 fn search(
     states: &mut States,
     alloc: Global,
     bodies: &[BodySteps],
     target: &Need,
 ) -> Result<Option<(usize, usize)>, Memory>
+    requires { ComeInOrder states.old 0 }
     ensures grows { OnOk result (StatesGrow bodies.now target.now states.old states.new) }
     ensures ends { IfOk result (SearchEnds bodies.now target.now states.new) }
+    ensures first { IfOk result (λ found. IfSome found (λ it. IsFirstFound bodies.now target.now states.new it.0)) }
 {
     let mut seen = StatesSeen::new(alloc)?;
     for at in 0..u32::MAX as usize {
@@ -218,6 +227,7 @@ fn start(
     requires { slice_get bodies.now method ≡ Some body.now }
     ensures started { IfOk result (IsStarted bodies.now method) }
     ensures one { IfOk result (λ states. length states ≡ 1) }
+    ensures order { IfOk result (λ states. ComeInOrder states 0) }
 {
     let _ = bodies;
     let mut states = States::new(alloc);
@@ -230,8 +240,8 @@ fn start(
     Ok(states)
 }
 
-/// A chain of calls that leads from the method to an access that is this need, as the places of the calls and of the access. If
-/// there is none, the method does not need it.
+/// A shortest chain of calls that leads from the method to an access that is this need, as the places of the calls and of the
+/// access. If there is none, the method does not need it.
 pub fn find_chain(
     alloc: Global,
     p: &Prog,
@@ -240,7 +250,7 @@ pub fn find_chain(
     target: &Need,
 ) -> Result<Option<Places>, Memory>
     requires { bodies.now ≡ all_bodies p.now }
-    ensures found { IfOk result (λ found. IfSome found (LeadsToNeed p.now method target.now)) }
+    ensures found { IfOk result (λ found. IfSome found (IsShortestChain p.now method target.now)) }
     ensures none { IfOk result (λ found. IfNone found (¬ IsNeed p.now method target.now)) }
 {
     let Some(body) = bodies.get(method as usize) else {

@@ -1,8 +1,8 @@
 //! From an access that was found back to the method with which the search began.
-ghost use Rattle.std.specs.Prelude.{◌≡◌, ◌++◌, IfOk, OnOk, option_to_list, slice_get};
+ghost use Rattle.std.specs.Prelude.{◌≡◌, ◌+◌, ◌++◌, ℕ, IfOk, OnOk, length, option_to_list, slice_get};
 ghost use Rattle.summary_comparing.specs.Placed.{all_bodies};
 ghost use Rattle.summary_comparing.specs.Chains.{LeadsToNeed};
-ghost use Rattle.summary_comparing.specs.inner.Search.{AreLinked, IsFoundAt, IsStarted};
+ghost use Rattle.summary_comparing.specs.inner.Search.{AreLinked, IsDeep, IsFoundAt, IsStarted};
 ghost use Rattle.summary_comparing.specs.inner.Walking.{place_in_body, place_of_step};
 
 use crate::bodies::{BodySteps, Places};
@@ -54,7 +54,7 @@ fn push_place_of(
     }
 }
 
-/// The places of the calls from the method to an access that was found, and the place of the access.
+/// The places of the calls from the method to an access that was found, and the place of the access. There is one for each call.
 pub(crate) fn walk_up(
     alloc: Global,
     p: &Prog,
@@ -69,7 +69,8 @@ pub(crate) fn walk_up(
     requires started { IsStarted bodies.now method states.now }
     requires linked { AreLinked bodies.now target.now states.now }
     requires found { IsFoundAt bodies.now target.now states.now at step }
-    ensures { IfOk result (LeadsToNeed p.now method target.now) }
+    ensures leads { IfOk result (LeadsToNeed p.now method target.now) }
+    ensures many { IfOk result (λ places. (depth : ℕ) → IsDeep states.now at depth → length places ≡ depth + 1) }
 {
     let _ = p;
     let _ = method;

@@ -1,4 +1,4 @@
-use Rattle.std.proofs.Common.{◌≡◌, ◌<◌, ◌∷◌, [], ◌++◌, List, Option, Some, length, refl, sym, ap, ◌∙◌, subst}
+use Rattle.std.proofs.Common.{◌≡◌, ◌<◌, ◌∷◌, [], ◌++◌, List, Option, Some, length, refl, sym, ap, ◌∙◌, subst, arith}
 use Rattle.std.specs.Prelude.{slice_get}
 use Rattle.std.proofs.lemmas.Option.{slice_get_read, slice_get_within}
 use Rattle.std.proofs.lemmas.Result.{on_ok_weaker}
@@ -7,8 +7,8 @@ use Rattle.effect_infer.specs.declared.needs.need.BodyStep.{BodyStep}
 use Rattle.effect_infer.specs.declared.needs.need.BodyStep.TheVariants.{Call}
 use Rattle.summary_comparing.specs.declared.states.SearchState.{SearchState}
 use Rattle.summary_comparing.specs.inner.Standing.{callee_values}
-use Rattle.summary_comparing.specs.inner.Search.{IsLinked, IsListed, StatesGrow}
-use Rattle.summary_comparing.proofs.Linked.{at-end, grow-push, listed-at}
+use Rattle.summary_comparing.specs.inner.Search.{ComeInOrder, IsLinked, IsListed, StatesGrow}
+use Rattle.summary_comparing.proofs.Linked.{at-end, grow-push, listed-at, order-push}
 use Rattle.summary_comparing.proofs.search.push_callee.Goals as goal
 
 -- one state more, which comes from this one
@@ -52,6 +52,13 @@ returns-clause-listed c =
     let values : c.in_ok-given.given ≡ callee_values c.args.values.now target.elems args body.params =
     c.in_ok-given.ensures ∙ ap (λ (ts : List Elem). callee_values c.args.values.now ts args body.params) c.as_slice.ensures in
     on_ok_weaker c.push.result
-    (λ is. subst (λ (ss : List SearchState). IsListed bodies target ss c.args.values.now c.args.callee args) (sym is)
-    (listed-at bodies target (states ++ new ∷ []) c.args.values.now c.args.callee args body (length states) new there (at-end states new) refl values))
+    (λ is. subst (λ (ss : List SearchState). IsListed bodies target ss c.args.at c.args.values.now c.args.callee args) (sym is)
+    (listed-at bodies target (states ++ new ∷ []) c.args.at c.args.values.now c.args.callee args body (length states) new there (at-end states new) refl values (omega arith)))
     c.push.ensures.ok
+
+-- it comes from this one, and no other one from a later one
+pub returns-clause-order : goal.returns-clause-order
+returns-clause-order c =
+    let states = c.args.states.now in
+    let new : SearchState = record { method = c.args.callee; values = c.in_ok-given.given; from = c.args.at; step = c.args.step } in
+    on_ok_weaker c.push.result (λ is. subst (λ (ss : List SearchState). ComeInOrder ss c.args.at) (sym is) (order-push states new c.args.at c.requires.order (omega arith))) c.push.ensures.ok

@@ -3,7 +3,8 @@ use Rattle.std.specs.Prelude.{IfNone, slice_get}
 use Rattle.std.proofs.lemmas.Option.{slice_get_within}
 use Rattle.summary_comparing.specs.declared.states.SearchState.{SearchState}
 use Rattle.summary_comparing.specs.inner.Search.{IsDoneWith}
-use Rattle.summary_comparing.proofs.Linked.{done-more, grow-further, grow-length}
+use Rattle.summary_comparing.proofs.Depths.{order-weaker}
+use Rattle.summary_comparing.proofs.Linked.{done-grown, done-more, grow-further, grow-length}
 use Rattle.summary_comparing.proofs.search.search.Goals as goal
 
 -- one state more
@@ -22,7 +23,8 @@ loop-at-preserved c =
     record {
       grows = grow-further bodies target first old new c.loop-at.invariant.grows grows;
       done = done-more bodies target old new at grows inside c.loop-at.invariant.done
-          (subst (λ (o : Option ℕ). IfNone o ((state : SearchState) → slice_get old at ≡ Some state → IsDoneWith bodies target new state)) c.in_default.is c.in_ok-found.ensures.none);
+          (subst (λ (o : Option ℕ). IfNone o ((state : SearchState) → slice_get old at ≡ Some state → IsDoneWith bodies target new at state)) c.in_default.is c.in_ok-found.ensures.none);
+      order = order-weaker new at c.in_ok-found.ensures.order;
       inside = omega (arith, inside, more);
     }
 
@@ -42,3 +44,11 @@ returns-then-at-len-clause-ends c = λ at state there. c.loop-at.invariant.done 
 pub returns-in-Some-clause-grows : goal.returns-in-Some-clause-grows
 returns-in-Some-clause-grows c =
     grow-further c.args.bodies.now c.args.target.now c.args.states.now c.loop-at.states c.look_at.new.states c.loop-at.invariant.grows c.in_ok-found.ensures.grows
+
+-- those before it are done with
+pub returns-in-Some-clause-first : goal.returns-in-Some-clause-first
+returns-in-Some-clause-first c = record {
+  done = done-grown c.args.bodies.now c.args.target.now c.loop-at.states c.look_at.new.states c.loop-at.at c.in_ok-found.ensures.grows
+      (let past = c.if-at-len.false in let long = c.len.ensures in omega (arith, past, long)) c.loop-at.invariant.done;
+  in_order = c.in_ok-found.ensures.order.in_order;
+}

@@ -27,7 +27,7 @@ loop-now-init c =
     ∙ ap (λ (ps : List Place). option_to_list (place_of_step (all_bodies p) (slice_get states c.args.at) c.args.step) ++ ps) c.new-back.ensures) in
     record {
       inside = slice_get_within states c.args.at found.0 found.2;
-      come = subst (HasCome p target states c.args.at) (sym back) (come-start p target method states started linked c.args.at c.args.step found);
+      come = subst (HasCome p target states c.args.at c.args.at) (sym back) (come-start p target method states started linked c.args.at c.args.step found);
     }
 
 -- the state at this place
@@ -62,13 +62,13 @@ loop-now-preserved c =
     ∙ ap (λ (bs : List BodySteps). option_to_list (place_of_step bs (slice_get states state.from) state.step) ++ c.loop-now.back) all in
     record {
       inside = (comes-earlier p target method states started linked c.loop-now.now state there above).1;
-      come = subst (HasCome p target states state.from) (sym back)
-          (come-back p target method states started linked c.loop-now.now c.loop-now.back state c.loop-now.invariant.come there above);
+      come = subst (HasCome p target states c.args.at state.from) (sym back)
+          (come-back p target method states started linked c.args.at c.loop-now.now c.loop-now.back state c.loop-now.invariant.come there above);
     }
 
 -- the first state
-pub returns : goal.returns
-returns c =
+pub returns-clause-leads : goal.returns-clause-leads
+returns-clause-leads c =
     let p = c.args.p.now in
     let target = c.args.target.now in
     let method = c.args.method in
@@ -78,4 +78,13 @@ returns c =
     let linked = subst (λ (bs : List BodySteps). AreLinked bs target states) all c.requires.linked in
     let first : c.loop-now.now ≡ 0 = let test = c.loop-now-test.false in omega (arith, test) in
     subst (LeadsToNeed p method target) (sym c.into_list.ensures)
-    (come-home p target method states started linked c.loop-now.now c.loop-now.back first c.loop-now.invariant.come)
+    (come-home p target method states started linked c.args.at c.loop-now.now c.loop-now.back first c.loop-now.invariant.come)
+
+-- a place for each call, and one for the access
+pub returns-clause-many : goal.returns-clause-many
+returns-clause-many c =
+    let first : c.loop-now.now ≡ 0 = let test = c.loop-now-test.false in omega (arith, test) in
+    λ depth deep.
+      let count = c.loop-now.invariant.come.calls 0 depth first deep in
+      let long = ap (λ (ps : List Place). length ps) c.into_list.ensures in
+      omega (arith, count, long)

@@ -6,7 +6,7 @@ use Rattle.summary_comparing.proofs.walk.walk_up.Given as goal
 abbrev pub invariant-loop-now : goal.invariant-loop-now
 invariant-loop-now l = record {
   inside : l.now < length l.states;
-  come : HasCome l.p l.target l.states l.now l.back;
+  come : HasCome l.p l.target l.states l.at l.now l.back;
 }
 
 abbrev pub decreases-loop-now : goal.decreases-loop-now
