@@ -1,14 +1,14 @@
 -- What a need of a called method stands for is what the need stands for that the caller has because of it.
-use Rattle.std.proofs.Common.{◌≡◌, ◌⊎◌, ◌<◌, ℕ, zero, suc, ◌+◌, Bool, true, false, not, ◌&&◌, List, [], ◌∷◌, map, length, Option, None, Some, if◌then◌else◌, inl, inr, refl, sym, ap, ◌∙◌, subst, arith}
+use Rattle.std.proofs.Common.{◌≡◌, ◌<◌, ℕ, Bool, true, false, ◌&&◌, List, [], ◌∷◌, map, length, Option, Some, if◌then◌else◌, inl, inr, refl, sym, ap, ◌∙◌, subst}
 use Rattle.std.specs.Prelude.{nat_lt}
-use Rattle.std.proofs.lemmas.Bool.{and_from, and_parts, cases_lt, false≢true, le-ltb, lt-ltb, ltb-true}
+use Rattle.std.proofs.lemmas.Bool.{and_from, and_parts, false≢true, ltb-true}
 use Rattle.twe_base.proofs.Members.{IsIn}
 use Rattle.region_paths.specs.declared.elements.Elem.{Elem}
 use Rattle.region_paths.specs.declared.elements.Elem.TheVariants.{Name, Index, Var, AnyIndex}
 use Rattle.region_paths.specs.Filled.{fill_elem}
 use Rattle.effect_infer.specs.declared.needs.need.Need.{Need}
 use Rattle.effect_infer.specs.needs.Needs.{filled_need, settled, settled_elem}
-use Rattle.summary_comparing.specs.inner.Standing.{callee_values, is_match, is_value, kept_value, own_values, same_elem, same_truth, stand_for, value_of}
+use Rattle.summary_comparing.specs.inner.Standing.{callee_values, is_match, is_value, own_values, same_truth, stand_for, value_of}
 use Rattle.summary_comparing.proofs.Elements.{callee-at, kept-is, own-at, same-elem-eq, same-elem-refl, value-settled}
 
 -- each element is one that a method says which has so many parameters

@@ -1,5 +1,5 @@
 -- If all states are done with, and nothing was found, the method does not need what was looked for.
-use Rattle.std.proofs.Common.{◌≡◌, ◌<◌, ℕ, true, false, List, map, length, get_or, Option, None, Some, refl, sym, ap, ◌∙◌, subst}
+use Rattle.std.proofs.Common.{◌≡◌, ℕ, true, List, map, length, Option, None, Some, refl, sym, ap, ◌∙◌, subst}
 use Rattle.std.specs.Prelude.{slice_get}
 use Rattle.std.specs.List.{Contains}
 use Rattle.std.proofs.lemmas.Bool.{false≢true}
@@ -8,16 +8,15 @@ use Rattle.region_paths.specs.declared.elements.Elem.{Elem}
 use Rattle.twe_program.specs.declared.program.Decl.{Decl}
 use Rattle.twe_program.specs.Program.{Program}
 use Rattle.effect_infer.specs.declared.needs.need.Need.{Need}
-use Rattle.effect_infer.specs.declared.needs.need.BodyStep.{BodyStep}
 use Rattle.effect_infer.specs.declared.needs.need.BodyStep.TheVariants.{Touch, Call}
 use Rattle.effect_infer.specs.needs.Steps.{steps_in_all}
-use Rattle.effect_infer.specs.needs.Needs.{IsNeed, own, called, filled_need, settled, settled_elem}
+use Rattle.effect_infer.specs.needs.Needs.{IsNeed, own, called, filled_need, settled_elem}
 use Rattle.effect_infer.proofs.needs.Leastness.{need-decl}
 use Rattle.summary_comparing.specs.declared.bodies.BodySteps.{BodySteps}
 use Rattle.summary_comparing.specs.declared.states.SearchState.{SearchState}
 use Rattle.summary_comparing.specs.Placed.{all_bodies, body_steps}
-use Rattle.summary_comparing.specs.inner.Standing.{callee_values, is_match}
-use Rattle.summary_comparing.specs.inner.Search.{AreLinked, IsDoneWith, IsStarted}
+use Rattle.summary_comparing.specs.inner.Standing.{is_match}
+use Rattle.summary_comparing.specs.inner.Search.{IsDoneWith, IsStarted}
 use Rattle.summary_comparing.proofs.Elements.{callee-length, own-length}
 use Rattle.summary_comparing.proofs.Carried.{AreSaid, match-carried, match-settled, self-match, settled-said}
 use Rattle.summary_comparing.proofs.Linked.{mapped-at}

@@ -1,5 +1,5 @@
 -- How many calls lead to the states of a search.
-use Rattle.std.proofs.Common.{◌≡◌, ◌⊎◌, ◌<◌, ◌≤◌, ◌+◌, ℕ, zero, suc, List, Some, inl, inr, sym, ap, ◌∙◌, subst, arith}
+use Rattle.std.proofs.Common.{◌≡◌, ◌<◌, ◌≤◌, ◌+◌, ℕ, zero, suc, List, Some, inl, inr, sym, ap, ◌∙◌, subst, arith}
 use Rattle.std.specs.Prelude.{slice_get}
 use Rattle.std.proofs.lemmas.Option.{same_Some}
 use Rattle.effect_infer.specs.declared.needs.need.Need.{Need}
@@ -43,7 +43,7 @@ some-depth bodies target states linked (suc most) at state below there = elim (l
   | inr link ↦
       let earlier = link.earlier in
       let before = some-depth bodies target states linked most state.from link.caller (omega (arith, earlier, below)) link.caller_there in
-      (suc before.0, omega (arith, earlier), state, there, before.1)
+      (suc before.0, (omega (arith, earlier), state, there, before.1))
 ]
 
 -- the states that come from those up to a place come from those up to the next one

@@ -5,14 +5,11 @@ use Rattle.std.proofs.lemmas.Bool.{cases_lt}
 use Rattle.std.proofs.lemmas.List.{length-append}
 use Rattle.std.proofs.lemmas.Option.{same_Some, slice_get_within}
 use Rattle.region_paths.specs.declared.elements.Elem.{Elem}
-use Rattle.twe_program.specs.declared.program.Decl.{Decl}
-use Rattle.twe_program.specs.Program.{Program}
 use Rattle.effect_infer.specs.declared.needs.need.Need.{Need}
 use Rattle.effect_infer.specs.declared.needs.need.BodyStep.{BodyStep}
 use Rattle.effect_infer.specs.declared.needs.need.BodyStep.TheVariants.{Touch, Call}
 use Rattle.summary_comparing.specs.declared.bodies.BodySteps.{BodySteps}
 use Rattle.summary_comparing.specs.declared.states.SearchState.{SearchState}
-use Rattle.summary_comparing.specs.Placed.{all_bodies, body_steps}
 use Rattle.summary_comparing.specs.inner.Standing.{callee_values}
 use Rattle.summary_comparing.specs.inner.Search.{AreCalledWith, AreDone, AreLinked, CallsListed, ComeInOrder, IsDoneWith, IsLinked, IsListed, IsStarted, IsStateAt, StatesGrow}
 use Rattle.summary_comparing.proofs.Elements.{callee-length, own-length}

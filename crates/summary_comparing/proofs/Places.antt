@@ -1,5 +1,5 @@
 -- Each step of a body has a place, at which the body does it.
-use Rattle.std.proofs.Common.{◌≡◌, ◌⊎◌, ℕ, zero, suc, List, [], ◌∷◌, ◌++◌, map, Option, None, Some, inl, inr, refl, sym, ap, ◌∙◌, subst}
+use Rattle.std.proofs.Common.{◌≡◌, ◌⊎◌, ℕ, zero, suc, List, [], ◌∷◌, ◌++◌, map, Some, inl, inr, refl, sym, ap, ◌∙◌, subst}
 use Rattle.std.specs.Prelude.{slice_get}
 use Rattle.std.proofs.lemmas.Option.{same_Some}
 use Rattle.twe_base.specs.declared.place.Place.{Place}
@@ -19,7 +19,7 @@ use Rattle.effect_infer.specs.declared.needs.need.BodyStep.{BodyStep}
 use Rattle.effect_infer.specs.declared.needs.need.BodyStep.TheVariants as steps
 use Rattle.effect_infer.specs.needs.Steps.{steps_in_all}
 use Rattle.effect_infer.specs.needs.Needs.{effect_of}
-use Rattle.effect_infer.proofs.needs.Steps.{Seen, touched, called, seen, seen_of, shown, seen-statements}
+use Rattle.effect_infer.proofs.needs.Steps.{touched, called, seen, seen_of, shown, seen-statements}
 use Rattle.summary_comparing.specs.Placed.{HasStepAt, step_place, step_places}
 
 -- at this place an act is what the step says

@@ -1,5 +1,5 @@
 -- The chain that a search finds is a shortest one.
-use Rattle.std.proofs.Common.{◌≡◌, ◌<◌, ◌≤◌, ◌+◌, ℕ, suc, true, List, [], ◌∷◌, length, Option, Some, inl, inr, refl, sym, ap, ◌∙◌, subst, arith}
+use Rattle.std.proofs.Common.{◌≡◌, ◌≤◌, ◌+◌, ℕ, suc, true, List, [], ◌∷◌, length, Option, Some, inl, inr, refl, sym, ap, ◌∙◌, subst, arith}
 use Rattle.std.specs.Prelude.{slice_get}
 use Rattle.std.proofs.lemmas.Bool.{cases_lt, false≢true}
 use Rattle.std.proofs.lemmas.Option.{same_Some}
@@ -13,7 +13,7 @@ use Rattle.summary_comparing.specs.declared.bodies.BodySteps.{BodySteps}
 use Rattle.summary_comparing.specs.declared.states.SearchState.{SearchState}
 use Rattle.summary_comparing.specs.Placed.{all_bodies, body_steps}
 use Rattle.summary_comparing.specs.Chains.{LeadsToNeed}
-use Rattle.summary_comparing.specs.inner.Standing.{callee_values, is_match}
+use Rattle.summary_comparing.specs.inner.Standing.{is_match}
 use Rattle.summary_comparing.specs.inner.Search.{AreLinked, IsDeep, IsFirstFound, IsStarted}
 use Rattle.summary_comparing.proofs.Elements.{callee-length, own-length}
 use Rattle.summary_comparing.proofs.Carried.{AreSaid, match-carried, match-settled, self-match}

@@ -1,5 +1,5 @@
 -- From an access that was found back to the first state.
-use Rattle.std.proofs.Common.{◌≡◌, ◌⊎◌, ◌<◌, ◌+◌, ℕ, suc, true, List, [], ◌∷◌, ◌++◌, map, length, Option, None, Some, inl, inr, refl, sym, ap, ◌∙◌, subst, arith}
+use Rattle.std.proofs.Common.{◌≡◌, ◌<◌, ◌+◌, ℕ, suc, true, List, [], ◌∷◌, ◌++◌, length, Option, Some, inl, inr, refl, sym, ap, ◌∙◌, subst, arith}
 use Rattle.std.specs.Prelude.{option_to_list, slice_get}
 use Rattle.std.proofs.lemmas.Option.{same_Some, slice_get_within}
 use Rattle.twe_base.specs.declared.place.Place.{Place}
@@ -9,15 +9,15 @@ use Rattle.twe_program.specs.Program.{Program}
 use Rattle.effect_infer.specs.declared.needs.need.Need.{Need}
 use Rattle.effect_infer.specs.declared.needs.need.BodyStep.{BodyStep}
 use Rattle.effect_infer.specs.declared.needs.need.BodyStep.TheVariants.{Touch, Call}
-use Rattle.effect_infer.specs.needs.Needs.{IsNeed, own, called, filled_need, settled, settled_elem}
+use Rattle.effect_infer.specs.needs.Needs.{IsNeed, own, called, filled_need, settled}
 use Rattle.summary_comparing.specs.declared.bodies.BodySteps.{BodySteps}
 use Rattle.summary_comparing.specs.declared.states.SearchState.{SearchState}
 use Rattle.summary_comparing.specs.Placed.{HasStepAt, all_bodies, body_steps}
 use Rattle.summary_comparing.specs.Chains.{LeadsToNeed}
 use Rattle.summary_comparing.specs.inner.Standing.{callee_values, is_match, own_values}
-use Rattle.summary_comparing.specs.inner.Search.{AreLinked, IsDeep, IsFoundAt, IsLinked, IsStarted}
+use Rattle.summary_comparing.specs.inner.Search.{AreLinked, IsDeep, IsFoundAt, IsStarted}
 use Rattle.summary_comparing.specs.inner.Walking.{place_in_body, place_of_step}
-use Rattle.summary_comparing.proofs.Carried.{AreSaid, match-carried, match-settled, own-match, settled-said}
+use Rattle.summary_comparing.proofs.Carried.{AreSaid, match-carried, match-settled, own-match}
 use Rattle.summary_comparing.proofs.Places.{body-place, step-at}
 use Rattle.summary_comparing.proofs.Linked.{at-mapped, mapped-at, values-long}
 use Rattle.summary_comparing.proofs.Complete.{need-said}

@@ -1,7 +1,6 @@
-use Rattle.std.proofs.Common.{◌≡◌, ◌++◌, ℕ, suc, List, Option, None, Some, inl, length, sym, subst, refl, arith}
-use Rattle.std.specs.Prelude.{IfSome, slice_get}
+use Rattle.std.proofs.Common.{ℕ, suc, List, Option, None, subst, arith}
+use Rattle.std.specs.Prelude.{IfSome}
 use Rattle.summary_comparing.specs.declared.bodies.BodySteps.{BodySteps}
-use Rattle.summary_comparing.specs.declared.states.SearchState.{SearchState}
 use Rattle.summary_comparing.specs.Placed.{all_bodies}
 use Rattle.summary_comparing.specs.inner.Search.{AreLinked, IsFirstFound, IsStarted, SearchEnds}
 use Rattle.summary_comparing.proofs.Complete.{not-needed}
@@ -29,23 +28,23 @@ walk_up-requires-clause-linked c =
     c.in_ok-found.ensures.grows.linked (one-linked c.args.bodies.now c.args.target.now c.in_ok-states.states c.in_ok-states.ensures.one)
 
 -- the chain is a shortest one
-pub returns-in-Some-clause-found : goal.returns-in-Some-clause-found
-returns-in-Some-clause-found c =
+pub returns-clause-found : goal.returns-clause-found
+returns-clause-found c =
     let p = c.args.p.now in
     let target = c.args.target.now in
     let states = c.search.new.states in
-    let at = c.in-Some.at in
+    let at = c.in-Some-found.at in
     let bodies = c.args.bodies.now in
     let started = subst (λ (bs : List BodySteps). IsStarted bs c.args.method states) c.requires
     (start-stays bodies target c.args.method c.in_ok-states.states states c.in_ok-found.ensures.grows c.in_ok-states.ensures.started) in
     let linked = subst (λ (bs : List BodySteps). AreLinked bs target states) c.requires
     (c.in_ok-found.ensures.grows.linked (one-linked bodies target c.in_ok-states.states c.in_ok-states.ensures.one)) in
     let first = subst (λ (bs : List BodySteps). IsFirstFound bs target states at) c.requires
-    (subst (λ (o : Option (ℕ × ℕ)). IfSome o (λ it. IsFirstFound bodies target states it.0)) c.in-Some.is c.in_ok-found.ensures.first) in
-    let found = subst (SearchEnds bodies target states) c.in-Some.is c.in_ok-found.ensures.ends in
+    (subst (λ (o : Option (ℕ × ℕ)). IfSome o (λ it. IsFirstFound bodies target states it.0)) c.in-Some-found.is c.in_ok-found.ensures.first) in
+    let found = subst (SearchEnds bodies target states) c.in-Some-found.is c.in_ok-found.ensures.ends in
     let deep = some-depth (all_bodies p) target states linked (suc at) at found.0 (omega arith) found.2 in
-    let many = c.in_ok-places.ensures.many deep.0 deep.1 in
+    let many = c.in_ok-places-in-Some-found.ensures.many deep.0 deep.1 in
     record {
-      leads = c.in_ok-places.ensures.leads;
+      leads = c.in_ok-places-in-Some-found.ensures.leads;
       shortest = λ others leads. let least = shortest-found p target states linked at deep.0 deep.1 first c.args.method started others leads in omega (arith, many, least);
     }

@@ -3,7 +3,6 @@ use Rattle.std.specs.Prelude.{slice_get}
 use Rattle.std.proofs.lemmas.Option.{slice_get_read}
 use Rattle.region_paths.specs.declared.elements.Elem.{Elem}
 use Rattle.effect_infer.specs.declared.needs.need.BodyStep.{BodyStep}
-use Rattle.effect_infer.specs.declared.needs.need.BodyStep.TheVariants.{Touch, Call}
 use Rattle.summary_comparing.specs.declared.states.SearchState.{SearchState}
 use Rattle.summary_comparing.specs.inner.Search.{CallsListed, ComeInOrder, IsListed, StatesGrow}
 use Rattle.summary_comparing.proofs.Linked.{grow-further, listed-more, listed-skip}

@@ -1,4 +1,4 @@
-use Rattle.std.proofs.Common.{◌≡◌, ◌<◌, ◌≤◌, ◌+◌, ℕ, List, Option, None, Some, length, sym, subst, arith}
+use Rattle.std.proofs.Common.{◌≡◌, ◌<◌, ◌≤◌, ℕ, List, Option, Some, length, sym, subst, arith}
 use Rattle.std.specs.Prelude.{IfNone, slice_get}
 use Rattle.std.proofs.lemmas.Option.{slice_get_within}
 use Rattle.summary_comparing.specs.declared.states.SearchState.{SearchState}

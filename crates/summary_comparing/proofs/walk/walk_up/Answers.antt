@@ -1,4 +1,4 @@
-use Rattle.std.proofs.Common.{◌≡◌, ◌<◌, ◌++◌, [], ℕ, List, Option, Some, length, refl, sym, ap, ◌∙◌, subst, arith}
+use Rattle.std.proofs.Common.{◌≡◌, ◌<◌, ◌++◌, List, Some, length, sym, ap, ◌∙◌, subst, arith}
 use Rattle.std.specs.Prelude.{option_to_list, slice_get}
 use Rattle.std.proofs.lemmas.Option.{slice_get_read, slice_get_within}
 use Rattle.twe_base.specs.declared.place.Place.{Place}
@@ -85,6 +85,6 @@ pub returns-clause-many : goal.returns-clause-many
 returns-clause-many c =
     let first : c.loop-now.now ≡ 0 = let test = c.loop-now-test.false in omega (arith, test) in
     λ depth deep.
-      let count = c.loop-now.invariant.come.calls 0 depth first deep in
-      let long = ap (λ (ps : List Place). length ps) c.into_list.ensures in
-      omega (arith, count, long)
+    let count = c.loop-now.invariant.come.calls 0 depth first deep in
+    let long = ap (λ (ps : List Place). length ps) c.into_list.ensures in
+    omega (arith, count, long)
