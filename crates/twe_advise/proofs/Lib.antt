@@ -1,3 +1,4 @@
+pub mod SameTree
 pub mod Causes
 pub mod Declarations
 pub mod OneAnswer

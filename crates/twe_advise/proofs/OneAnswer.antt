@@ -5,7 +5,7 @@ use Rattle.twe_base.specs.Limits.{Bounds}
 use Rattle.twe_ast.specs.declared.item.Ast.{Ast}
 use Rattle.twe_ast.specs.declared.item.Item.{Item}
 use Rattle.twe_program.specs.Program.{Program}
-use Rattle.twe_frontend.proofs.SameTree.{OneTree, same_tree}
+use Rattle.twe_advise.proofs.SameTree.{OneTree, same_tree}
 use Rattle.machine_state.specs.declared.state.TaskRow.{TaskRow}
 use Rattle.machine_state.specs.declared.why.Why.{Why}
 use Rattle.machine_state.specs.Replays.{IsFirstIllegal}
