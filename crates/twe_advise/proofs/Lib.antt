@@ -1,4 +1,3 @@
-pub mod SameTree
 pub mod Causes
 pub mod Declarations
 pub mod OneAnswer
@@ -6,4 +5,5 @@ pub mod OneMost
 pub mod OnePace
 pub mod PairRows
 pub mod Pieces
+pub mod SameTree
 pub mod TaskRows
