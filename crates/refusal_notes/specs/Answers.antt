@@ -22,7 +22,7 @@ use Rattle.refusal_notes.specs.Explanation.{explanation_by, place_of_cause}
 use Rattle.explain_pages.specs.declared.places.note.Explanation.{Explanation}
 use Rattle.refusal_notes.specs.declared.mends.Mend.{Mend}
 use Rattle.refusal_notes.specs.Meetings.{IsMeetingTold}
-use Rattle.refusal_notes.specs.Mends.{AreTried, mends_for}
+use Rattle.refusal_notes.specs.Mends.{AreMends, AreTried}
 use Rattle.explain_pages.specs.names.Named.{named_explanation}
 use Rattle.refusal_notes.specs.Tokens.{stray_explanation}
 use Rattle.refusal_notes.specs.Unclosed.{unclosed_explanation}
@@ -38,9 +38,9 @@ names_of cause tree = variables_at tree.items (place_of_cause cause)
 abbrev pub caused_explanation : Refusal → RuleCause → Ast → Program → Explanation
 caused_explanation refusal cause tree p = explanation_by refusal cause p.regions (names_of cause tree)
 
--- the edits that may mend a failure with this cause, by the names that the text has
-abbrev pub mends_of : List ℕ → Refusal → RuleCause → Ast → Program → List Mend
-mends_of text refusal cause tree p = mends_for text refusal.place cause p.regions (names_of cause tree)
+-- these edits may mend a failure with this cause, by the names that the text has
+abbrev pub AreMendsOf : List ℕ → Refusal → RuleCause → Ast → Program → List Mend → Type 0
+AreMendsOf text refusal cause tree p mends = AreMends text refusal.place cause p.regions (names_of cause tree) mends
 
 -- The answer to a text that was read. All of it is on out, and the status is that of `twe check`.
 pub data ExplainDue (wanted : Wanted) (text : List ℕ) : Answer → Type 0 where
@@ -67,9 +67,9 @@ pub data ExplainDue (wanted : Wanted) (text : List ℕ) : Answer → Type 0 wher
   -- The text is refused, and the cause is true of the program that it means; after the answer of `twe check` comes the cause, and
   -- then where its two effects meet, if it has two. Edits that may mend it are tried, and what is said of those after which it is
   -- accepted comes last.
-  caused : (refusal : Refusal) (cause : RuleCause) (tree : Ast) (p : Program) (told remarks : List (List ℕ))
+  caused : (refusal : Refusal) (cause : RuleCause) (tree : Ast) (p : Program) (mends : List Mend) (told remarks : List (List ℕ))
       → IsCausedBy text refusal cause tree p
       → IsMeetingTold p (names_of cause tree) cause (caused_explanation refusal cause tree p).remarks told
-      → AreTried (mends_of text refusal cause tree p) told remarks
+      → AreMendsOf text refusal cause tree p mends → AreTried mends told remarks
       → ExplainDue wanted text (on_out Refused (refused_text wanted text refusal
       (record (caused_explanation refusal cause tree p) { remarks = remarks })))

@@ -1,7 +1,10 @@
 -- Edits of a text: where they begin, and what the text is afterwards.
-use Rattle.std.specs.Prelude.{ℕ, suc, ◌-◌, Bool, ◌||◌, ◌==◌, List, [], ◌∷◌, ◌++◌, length, take, drop, bytes_eq, if◌then◌else◌}
+use Rattle.std.specs.Prelude.{ℕ, ◌-◌, Bool, ◌||◌, ◌==◌, List, ◌++◌, length, take, drop}
 use Rattle.std.specs.List.{prefix_len}
+use Rattle.twe_base.specs.declared.place.Place.{Place}
 use Rattle.twe_frontend.specs.Lines.{after_lines, line_at}
+use Rattle.refusal_causes.specs.text_rules.Behind.{from_place}
+use Rattle.refusal_notes.specs.declared.spots.Span.{Span}
 
 -- a space or a tab
 abbrev pub is_indent : ℕ → Bool
@@ -15,24 +18,22 @@ indent_at text number = prefix_len is_indent (line_at number text)
 abbrev pub from_statement : List ℕ → ℕ → List ℕ
 from_statement text number = drop (indent_at text number) (after_lines (number - 1) text)
 
--- the bytes begin with these words
-abbrev pub begins_with : List ℕ → List ℕ → Bool
-begins_with words bytes = bytes_eq words (take (length words) bytes)
+-- how many bytes of a text come before the rest of it
+abbrev pub bytes_before : List ℕ → List ℕ → ℕ
+bytes_before text rest = length text - length rest
 
--- how many bytes come before the first of these words in the bytes; all, if they are not there
-abbrev pub first_at : List ℕ → List ℕ → ℕ
-first_at words [] = 0
-first_at words (code ∷ bytes) =
-    if begins_with words (code ∷ bytes) then 0 else suc (first_at words bytes)
+-- how many bytes of a text come before the place
+abbrev pub place_offset : List ℕ → Place → ℕ
+place_offset text place = bytes_before text (from_place text place)
 
--- the bytes from the first of these words on
-abbrev pub from_first : List ℕ → List ℕ → List ℕ
-from_first words bytes = drop (first_at words bytes) bytes
+-- how many bytes of a text come before the first one of this line that is no space or tab
+abbrev pub statement_offset : List ℕ → ℕ → ℕ
+statement_offset text number = bytes_before text (from_statement text number)
 
--- the bytes without the first of these words
-abbrev pub without_first : List ℕ → List ℕ → List ℕ
-without_first words bytes = take (first_at words bytes) bytes ++ drop (length words) (from_first words bytes)
+-- the text with other bytes after its first `from` ones, instead of so many there
+abbrev pub edited : List ℕ → ℕ → ℕ → List ℕ → List ℕ
+edited text from count bytes = take from text ++ (bytes ++ drop count (drop from text))
 
--- the text, which ends with `rest`, with other bytes in the place of `rest`
-abbrev pub with_end : List ℕ → List ℕ → List ℕ → List ℕ
-with_end text rest other = take (length text - length rest) text ++ other
+-- the text without this part
+abbrev pub without : List ℕ → Span → List ℕ
+without text span = take span.start.offset text ++ drop 1 (drop span.last text)

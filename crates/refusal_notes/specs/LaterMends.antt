@@ -1,38 +1,47 @@
--- Edits by which a task is made by `executeLater` in place of `spawn`, so that it needs no effect of its maker.
-use Rattle.std.specs.Prelude.{ℕ, Bool, List, [], ◌∷◌, ◌++◌, drop, codes, decimal, if◌then◌else◌}
+-- Edits by which a task is made by `executeLater` instead of `spawn`, so that it needs no effect of its maker.
+use Rattle.std.specs.Prelude.{ℕ, Bool, ◌&&◌, Option, None, Some, List, [], ◌∷◌, ◌++◌, codes, if◌then◌else◌}
 use Rattle.twe_base.specs.declared.place.Place.{Place}
-use Rattle.explain_pages.specs.places.WordAt.{word_at}
-use Rattle.refusal_causes.specs.text_rules.Behind.{from_place}
+use Rattle.twe_report.specs.Texts.{place_text}
 use Rattle.refusal_notes.specs.declared.mends.Mend.{Mend}
-use Rattle.refusal_notes.specs.Edits.{begins_with, from_first, with_end}
+use Rattle.refusal_notes.specs.declared.spots.CutText.{CutText}
+use Rattle.refusal_notes.specs.declared.spots.Mark.{Mark}
+use Rattle.refusal_notes.specs.declared.spots.Spot.{Spot}
+use Rattle.refusal_notes.specs.Edits.{edited, place_offset}
+use Rattle.refusal_notes.specs.Spots.{is_word, next_word, spots_behind}
 
--- what stands between the name of a task that is spawned and its arguments
-abbrev pub spawn_text : List ℕ
-spawn_text = codes ".spawn("
+-- the tokens at the place and after it
+abbrev pub spots_at : CutText → Place → List Spot
+spots_at cut place = spots_behind (place_offset cut.bytes place) cut.spots
 
--- what stands there if it is made by `executeLater`
-abbrev pub later_text : List ℕ
-later_text = codes ".executeLater("
-
--- `executeLater` in place of `spawn` in line 6
+-- `executeLater` instead of `spawn` at 6:14
 abbrev pub later_said : Place → List ℕ
-later_said place = codes "`executeLater` in place of `spawn` in line " ++ decimal place.line
+later_said place = codes "`executeLater` instead of `spawn` at " ++ place_text place
 
--- the text from the first spawn at the place or after it on
-abbrev pub from_spawn : List ℕ → Place → List ℕ
-from_spawn text place = from_first spawn_text (from_place text place)
+-- what else comes of it
+abbrev pub later_comes : List ℕ
+later_comes = codes ", but what follows may run before the task does"
 
--- that spawn is an `executeLater`
-abbrev pub later_mend : List ℕ → Place → Mend
-later_mend text place = record {
-  said = later_said place;
-  text = with_end text (from_spawn text place) (later_text ++ drop 7 (from_spawn text place));
+-- the task is made so where this `spawn` begins
+abbrev pub later_mend : List ℕ → Mark → Mend
+later_mend text mark = record {
+  said = later_said mark.place;
+  comes = later_comes;
+  text = edited text mark.offset 5 (codes "executeLater");
 }
 
--- the task whose name stands at the place is spawned there
-abbrev pub spawns_at : List ℕ → Place → Bool
-spawns_at text place = begins_with (word_at text place ++ spawn_text) (from_place text place)
+-- the same, if there is one
+abbrev pub later_mend_at : List ℕ → Option Mark → List Mend
+later_mend_at text None = []
+later_mend_at text (Some mark) = later_mend text mark ∷ []
 
--- the same, if the name at the place is that of a spawned task
-abbrev pub later_mends : List ℕ → Place → List Mend
-later_mends text place = if spawns_at text place then later_mend text place ∷ [] else []
+-- the first `spawn` at the place or after it is an `executeLater`
+abbrev pub next_later_mends : CutText → Place → List Mend
+next_later_mends cut place = later_mend_at cut.bytes (next_word (codes "spawn") (spots_at cut place))
+
+-- the name at the place is that of a task that is spawned there
+abbrev pub spawns_at : CutText → Place → Bool
+spawns_at cut place = is_word (spots_at cut place) 1 (codes ".") && is_word (spots_at cut place) 2 (codes "spawn")
+
+-- the same, if the name at the place is that of a task that is spawned there
+abbrev pub later_mends : CutText → Place → List Mend
+later_mends cut place = if spawns_at cut place then next_later_mends cut place else []

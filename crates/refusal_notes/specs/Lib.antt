@@ -2,6 +2,7 @@ pub mod Effects
 pub mod Ruled
 pub mod Explanation
 pub mod Tokens
+pub mod Spots
 pub mod Edits
 pub mod Early
 pub mod Unclosed
@@ -11,3 +12,4 @@ pub mod Mends
 pub mod Answers
 pub mod Meetings
 pub mod AllFailures
+pub mod inner

@@ -1,5 +1,5 @@
 -- Edits that may mend a text, and those of them after which it is accepted.
-use Rattle.std.specs.Prelude.{◌≡◌, ◌<◌, ℕ, Bool, true, false, List, [], ◌∷◌, ◌++◌, length, drop, codes, decimal, if◌then◌else◌}
+use Rattle.std.specs.Prelude.{◌≡◌, ◌<◌, ℕ, Bool, true, false, Option, None, Some, List, [], ◌∷◌, ◌++◌, length, codes, decimal, if◌then◌else◌}
 use Rattle.twe_base.specs.Language.{max_text_bytes}
 use Rattle.twe_base.specs.declared.place.Place.{Place}
 use Rattle.effect_sets.specs.declared.effects.Effect.{Effect}
@@ -11,14 +11,18 @@ use Rattle.twe_frontend.specs.meaning.EffectTexts.{effect_text}
 use Rattle.refusal_causes.specs.declared.cause.RuleCause.{RuleCause}
 use Rattle.refusal_causes.specs.declared.cause.RuleCause.TheVariants.{Undeclared, Out, NotOut, OutAgain, OrderOpen, NotDeterministic}
 use Rattle.refusal_notes.specs.declared.mends.Mend.{Mend}
+use Rattle.refusal_notes.specs.declared.spots.CutText.{CutText}
+use Rattle.refusal_notes.specs.declared.spots.Mark.{Mark}
+use Rattle.refusal_notes.specs.declared.spots.Span.{Span}
 use Rattle.explain_pages.specs.places.WordAt.{word_at}
-use Rattle.refusal_causes.specs.text_rules.Behind.{from_place}
-use Rattle.refusal_notes.specs.Edits.{from_first, from_statement, with_end, without_first}
-use Rattle.refusal_notes.specs.LaterMends.{later_mend, later_mends}
+use Rattle.twe_report.specs.Texts.{place_text}
+use Rattle.refusal_notes.specs.Edits.{edited, statement_offset, without}
+use Rattle.refusal_notes.specs.LaterMends.{later_mends, next_later_mends, spawns_at, spots_at}
+use Rattle.refusal_notes.specs.Spots.{IsCut, next_join, next_word}
 
--- an edit, with what is said of it and the text after it
+-- an edit with nothing else to be said
 abbrev pub mend_by : List ℕ → List ℕ → Mend
-mend_by said text = record { said = said; text = text }
+mend_by said text = record { said = said; comes = []; text = text }
 
 -- `f.join();`
 abbrev pub join_text : List ℕ → List ℕ
@@ -28,72 +32,89 @@ join_text name = name ++ codes ".join();"
 abbrev pub join_said : List ℕ → Place → List ℕ
 join_said name place = codes "`" ++ (join_text name ++ (codes "` at the beginning of line " ++ decimal place.line))
 
+-- what else comes of a join before a spawn
+abbrev pub join_comes : Bool → List ℕ
+join_comes spawns = if spawns then codes ", and the two tasks run one after the other" else []
+
 -- a join before the statement of the line
-abbrev pub join_mend : List ℕ → List ℕ → Place → Mend
-join_mend text name place =
-    mend_by (join_said name place)
-    (with_end text (from_statement text place.line) (join_text name ++ (codes " " ++ from_statement text place.line)))
+abbrev pub with_join : List ℕ → List ℕ → Place → List ℕ
+with_join text name place = edited text (statement_offset text place.line) 0 (join_text name ++ codes " ")
 
--- the same join, and none after it where the first one is now
-abbrev pub moved_join_mend : List ℕ → List ℕ → Place → Mend
-moved_join_mend text name place =
-    mend_by (join_said name place ++ codes " in place of the next one")
-    (with_end text (from_statement text place.line)
-    (join_text name ++ (codes " " ++ without_first (join_text name) (from_statement text place.line))))
+-- such a join
+abbrev pub join_mend : CutText → List ℕ → Place → Mend
+join_mend cut name place = record {
+  said = join_said name place;
+  comes = join_comes (spawns_at cut place);
+  text = with_join cut.bytes name place;
+}
 
--- some bytes are left
-abbrev pub is_left : List ℕ → Bool
-is_left [] = false
-is_left (code ∷ bytes) = true
+-- such a join, and none where the next one is now
+abbrev pub moved_join_mend : CutText → List ℕ → Place → Span → Mend
+moved_join_mend cut name place span = record {
+  said = join_said name place ++ (codes " instead of at " ++ place_text span.start.place);
+  comes = join_comes (spawns_at cut place);
+  text = with_join (without cut.bytes span) name place;
+}
 
--- a join of this name stands in the line of the place or after it
-abbrev pub has_join : List ℕ → List ℕ → Place → Bool
-has_join text name place = is_left (from_first (join_text name) (from_statement text place.line))
+-- the same, if there is a next one
+abbrev pub moved_mends : CutText → List ℕ → Place → Option Span → List Mend
+moved_mends cut name place None = []
+moved_mends cut name place (Some span) = moved_join_mend cut name place span ∷ []
 
--- a join before the statement of the line, and the same in place of one that stands there or after it, if one does
-abbrev pub out_mends : List ℕ → List ℕ → Place → List Mend
-out_mends text name place =
-    if has_join text name place then join_mend text name place ∷ moved_join_mend text name place ∷ []
-    else join_mend text name place ∷ []
+-- a join before the statement of the line, and the same instead of the next one in the same body, if there is one
+abbrev pub out_mends : CutText → List ℕ → Place → List Mend
+out_mends cut name place =
+    join_mend cut name place
+    ∷ moved_mends cut name place (next_join name (statement_offset cut.bytes place.line) 0 cut.spots)
 
--- `writes B` with the effects of `w`
-abbrev pub effect_said : List ℕ → List ℕ → List ℕ
-effect_said effect name = codes "`" ++ (effect ++ (codes "` with the effects of `" ++ (name ++ codes "`")))
+-- `writes A` instead of `pure` at 4:18
+abbrev pub pure_said : List ℕ → Place → List ℕ
+pure_said effect place = codes "`" ++ (effect ++ (codes "` instead of `pure` at " ++ place_text place))
 
--- an effect more before the body of the declaration at the place
-abbrev pub effect_mend : List ℕ → List ℕ → List ℕ → Place → Mend
-effect_mend text effect name place =
-    mend_by (effect_said effect name)
-    (with_end text (from_first (codes "{") (from_place text place))
-    (effect ++ (codes " " ++ from_first (codes "{") (from_place text place))))
+-- `writes B` before the `{` at 4:30
+abbrev pub effect_said : List ℕ → Place → List ℕ
+effect_said effect place = codes "`" ++ (effect ++ (codes "` before the `{` at " ++ place_text place))
 
--- the effect in the place of `pure`
-abbrev pub pure_mend : List ℕ → List ℕ → List ℕ → Place → Mend
-pure_mend text effect name place =
-    mend_by (effect_said effect name)
-    (with_end text (from_first (codes "pure") (from_place text place))
-    (effect ++ drop 4 (from_first (codes "pure") (from_place text place))))
+-- the effect instead of the `pure` that begins here
+abbrev pub pure_mend : List ℕ → List ℕ → Mark → Mend
+pure_mend text effect mark = mend_by (pure_said effect mark.place) (edited text mark.offset 4 effect)
 
--- the effect in the place of `pure`, if nothing is declared, or else with what is
-abbrev pub declared_mend : List Effect → List ℕ → List ℕ → List ℕ → Place → Mend
-declared_mend [] text effect name place = pure_mend text effect name place
-declared_mend (first ∷ others) text effect name place = effect_mend text effect name place
+-- an effect more before the `{` that begins here
+abbrev pub effect_mend : List ℕ → List ℕ → Mark → Mend
+effect_mend text effect mark = mend_by (effect_said effect mark.place) (edited text mark.offset 0 (effect ++ codes " "))
+
+-- an edit at a token, if there is one
+abbrev pub mend_at : (Mark → Mend) → Option Mark → List Mend
+mend_at made None = []
+mend_at made (Some mark) = made mark ∷ []
+
+-- the effect instead of `pure` in the declaration at the place, if nothing is declared, or else with what is
+abbrev pub declared_mends : List Effect → CutText → List ℕ → Place → List Mend
+declared_mends [] cut effect place = mend_at (pure_mend cut.bytes effect) (next_word (codes "pure") (spots_at cut place))
+declared_mends (first ∷ others) cut effect place =
+    mend_at (effect_mend cut.bytes effect) (next_word (codes "{") (spots_at cut place))
 
 -- the edits that may mend a failure with this cause, in the order in which they are tried
-abbrev pub mends_for : List ℕ → Place → RuleCause → List (List ℕ) → List written.Name → List Mend
-mends_for text place (Undeclared need declared decl_place) regions variables =
-    declared_mend declared.effects text (effect_text regions variables need) (word_at text decl_place) decl_place
-    ∷ later_mends text place
-mends_for text place (Out need other future_place way decl_place) regions variables =
-    out_mends text (word_at text future_place) place ++ later_mends text place
-mends_for text place (NotOut future_place way) regions variables = []
-mends_for text place (OutAgain way) regions variables = later_mend text place ∷ []
-mends_for text place (OrderOpen makes decl_place) regions variables = []
-mends_for text place (NotDeterministic decl_place) regions variables = []
+abbrev pub mends_for : CutText → Place → RuleCause → List (List ℕ) → List written.Name → List Mend
+mends_for cut place (Undeclared need declared decl_place) regions variables =
+    declared_mends declared.effects cut (effect_text regions variables need) decl_place ++ later_mends cut place
+mends_for cut place (Out need other future_place way decl_place) regions variables =
+    out_mends cut (word_at cut.bytes future_place) place ++ later_mends cut place
+mends_for cut place (NotOut future_place way) regions variables = []
+mends_for cut place (OutAgain way) regions variables = next_later_mends cut place
+mends_for cut place (OrderOpen makes decl_place) regions variables = []
+mends_for cut place (NotDeterministic decl_place) regions variables = []
+
+-- These edits may mend a failure of a text: none if the text is longer than a text may be, and else those at its tokens.
+pub data AreMends (text : List ℕ) (place : Place) (cause : RuleCause) (regions : List (List ℕ)) (variables : List written.Name)
+    : List Mend → Type 0 where
+  none : max_text_bytes < length text → AreMends text place cause regions variables []
+  these : (cut : CutText) → IsCut text cut
+      → AreMends text place cause regions variables (mends_for cut place cause regions variables)
 
 -- what is said of an edit after which the text is accepted
 abbrev pub mend_remark : Mend → List ℕ
-mend_remark mend = codes "mend: " ++ (mend.said ++ codes "; then the text is accepted")
+mend_remark mend = codes "mend: " ++ (mend.said ++ (codes "; then the text is accepted" ++ mend.comes))
 
 -- whether the text is accepted: it has a program, or a refusal
 abbrev pub TellsAcceptance : List ℕ → Bool → Type 0

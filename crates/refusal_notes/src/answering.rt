@@ -9,7 +9,7 @@ ghost use Rattle.twe_frontend.specs.Accepted.{IsRefusal, IsTreeOf};
 use crate::early::early_explanation;
 use crate::explanation::{explanation_by, place_of_cause};
 use crate::meetings::tell_meeting;
-use crate::mends::{mends_for, try_mends};
+use crate::mends::{mends_of, try_mends};
 use crate::tokens::stray_explanation;
 use crate::unclosed::unclosed_explanation;
 use explain_pages::{Wanted, named_explanation, refused_text, variables_at};
@@ -167,7 +167,7 @@ pub(crate) fn answer_caused(
 {
     let names = variables_at(alloc, tree.items.as_slice(), place_of_cause(cause))?;
     let regions = p.regions.as_slice();
-    let mends = mends_for(alloc, text, refusal.place, cause, regions, names.as_slice())?;
+    let mends = mends_of(alloc, text, refusal.place, cause, regions, names.as_slice())?;
     let mut explanation = explanation_by(alloc, refusal, cause, regions, names.as_slice())?;
     tell_meeting(&mut explanation.remarks, alloc, p, names.as_slice(), cause)?;
     try_mends(&mut explanation.remarks, alloc, mends.as_slice())?;

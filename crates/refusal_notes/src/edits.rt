@@ -1,10 +1,12 @@
 //! Edits of a text: where they begin, and what the text is afterwards.
-ghost use Rattle.std.specs.Prelude.{◌≡◌, ◌++◌, IfOk};
+ghost use Rattle.std.specs.Prelude.{◌≡◌, IfOk};
 ghost use Rattle.std.specs.List.{prefix_len};
-ghost use Rattle.refusal_notes.specs.Edits.{begins_with, first_at, from_first, from_statement, indent_at, is_indent, with_end, without_first};
+ghost use Rattle.refusal_notes.specs.Edits.{bytes_before, edited, from_statement, indent_at, is_indent, place_offset, statement_offset, without};
 
+use crate::spots::Span;
+use refusal_causes::text_rules::from_place;
 use std::alloc::Global;
-use twe_base::{Bytes, Memory};
+use twe_base::{Bytes, Memory, Place};
 use twe_frontend::{after_bytes, after_lines, first_bytes, line_at};
 
 /// Whether a byte is a space or a tab.
@@ -22,73 +24,62 @@ fn indent_length(bytes: &[u8]) -> usize
 }
 
 /// How many spaces and tabs the line of this number begins with.
-pub(crate) fn indent_at(text: &[u8], number: u32) -> usize
+fn indent_at(text: &[u8], number: u32) -> usize
     ensures { result ≡ indent_at text.now number }
 {
     indent_length(line_at(text, number))
 }
 
 /// The text from the first byte of the line of this number on that is no space or tab.
-pub(crate) fn from_statement(text: &[u8], number: u32) -> &[u8]
+fn from_statement(text: &[u8], number: u32) -> &[u8]
     ensures { result.now ≡ from_statement text.now number }
 {
     let line = after_lines(text, number.saturating_sub(1));
     after_bytes(line, indent_at(text, number))
 }
 
-/// Whether the bytes begin with these words.
-pub(crate) fn begins_with(words: &[u8], bytes: &[u8]) -> bool
-    ensures { result ≡ begins_with words.now bytes.now }
+/// How many bytes of a text come before the rest of it.
+fn bytes_before(text: &[u8], rest: &[u8]) -> usize
+    ensures { result ≡ bytes_before text.now rest.now }
 {
-    words == first_bytes(bytes, words.len())
+    text.len().saturating_sub(rest.len())
 }
 
-/// How many bytes come before the first of these words in the bytes; all, if they are not there.
-#[tactic(auto, using(crate::proofs::Finding::here, crate::proofs::Finding::later, crate::proofs::Finding::nowhere))]
-fn first_at(words: &[u8], bytes: &[u8]) -> usize
-    ensures { result ≡ first_at words.now bytes.now }
+/// How many bytes of a text come before the place.
+pub(crate) fn place_offset(text: &[u8], place: Place) -> usize
+    ensures { result ≡ place_offset text.now place }
 {
-    let mut rest = bytes;
-    let mut count = 0;
-    while !rest.is_empty() {
-        if begins_with(words, rest) {
-            return count;
-        }
-        rest = after_bytes(rest, 1);
-        count += 1;
-    }
-    count
+    bytes_before(text, from_place(text, place))
 }
 
-/// The bytes from the first of these words on.
-pub(crate) fn from_first<'a>(words: &[u8], bytes: &'a [u8]) -> &'a [u8]
-    ensures { result.now ≡ from_first words.now bytes.now }
+/// How many bytes of a text come before the first one of this line that is no space or tab.
+pub(crate) fn statement_offset(text: &[u8], number: u32) -> usize
+    ensures { result ≡ statement_offset text.now number }
 {
-    after_bytes(bytes, first_at(words, bytes))
+    bytes_before(text, from_statement(text, number))
 }
 
-/// The bytes without the first of these words.
-pub(crate) fn without_first(alloc: Global, words: &[u8], bytes: &[u8]) -> Result<Bytes, Memory>
-    ensures { IfOk result (λ made. made ≡ without_first words.now bytes.now) }
+/// The text with other bytes after its first `from` ones, instead of so many there.
+pub(crate) fn edited(
+    alloc: Global,
+    text: &[u8],
+    from: usize,
+    count: usize,
+    bytes: &[u8],
+) -> Result<Bytes, Memory>
+    ensures { IfOk result (λ made. made ≡ edited text.now from count bytes.now) }
 {
-    let mut made = Bytes::from_slice(alloc, first_bytes(bytes, first_at(words, bytes)))?;
-    made.push_all(after_bytes(from_first(words, bytes), words.len()))?;
+    let mut made = Bytes::from_slice(alloc, first_bytes(text, from))?;
+    made.push_all(bytes)?;
+    made.push_all(after_bytes(after_bytes(text, from), count))?;
     Ok(made)
 }
 
-/// The text, which ends with `rest`, with two other parts in the place of `rest`.
-pub(crate) fn with_end(
-    alloc: Global,
-    text: &[u8],
-    rest: &[u8],
-    first: &[u8],
-    second: &[u8],
-) -> Result<Bytes, Memory>
-    ensures { IfOk result (λ made. made ≡ with_end text.now rest.now (first.now ++ second.now)) }
+/// The text without this part.
+pub(crate) fn without(alloc: Global, text: &[u8], span: Span) -> Result<Bytes, Memory>
+    ensures { IfOk result (λ made. made ≡ without text.now span) }
 {
-    let kept = text.len().saturating_sub(rest.len());
-    let mut made = Bytes::from_slice(alloc, first_bytes(text, kept))?;
-    made.push_all(first)?;
-    made.push_all(second)?;
+    let mut made = Bytes::from_slice(alloc, first_bytes(text, span.start.offset))?;
+    made.push_all(after_bytes(after_bytes(text, span.last), 1))?;
     Ok(made)
 }

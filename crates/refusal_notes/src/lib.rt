@@ -11,6 +11,7 @@ mod later_mends;
 mod meetings;
 mod mends;
 mod ruled;
+mod spots;
 mod tokens;
 mod unclosed;
 mod ways;

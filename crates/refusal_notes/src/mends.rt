@@ -1,30 +1,34 @@
 //! Edits that may mend a text, and those of them after which it is accepted.
-ghost use Rattle.std.specs.Prelude.{◌≡◌, ◌++◌, ◌∷◌, [], codes, IfOk, OnOk};
+ghost use Rattle.std.specs.Prelude.{◌≡◌, ◌++◌, [], codes, IfOk, OnOk};
 ghost use Rattle.twe_frontend.specs.meaning.EffectTexts.{effect_text};
 ghost use Rattle.twe_frontend.specs.Accepted.{Accepted, IsRefusal};
-ghost use Rattle.explain_pages.specs.places.WordAt.{word_at};
-ghost use Rattle.refusal_causes.specs.text_rules.Behind.{from_place};
-ghost use Rattle.refusal_notes.specs.Edits.{from_first, from_statement, without_first};
-ghost use Rattle.refusal_notes.specs.Mends.{AreTried, IsTried, TellsAcceptance, declared_mend, effect_mend, effect_said, has_join, is_left, join_mend, join_said, join_text, mend_remark, mends_for, moved_join_mend, out_mends, pure_mend};
+ghost use Rattle.twe_report.specs.Texts.{place_text};
+ghost use Rattle.refusal_notes.specs.Edits.{edited, statement_offset, without};
+ghost use Rattle.refusal_notes.specs.LaterMends.{spots_at};
+ghost use Rattle.refusal_notes.specs.Mends.{AreMends, AreTried, IsTried, TellsAcceptance, declared_mends, effect_mend, effect_said, join_comes, join_mend, join_said, join_text, mend_at, mend_remark, mends_for, moved_join_mend, moved_mends, out_mends, pure_mend, pure_said, with_join};
+ghost use Rattle.refusal_notes.specs.Spots.{next_join, next_word};
 
-use crate::edits::{from_first, from_statement, with_end, without_first};
-use crate::later_mends::{push_later, push_later_if};
+use crate::edits::{edited, statement_offset, without};
+use crate::later_mends::{push_later, push_later_if, spawns_at, spots_at};
+use crate::spots::{CutText, Mark, Span, cut_text, next_join, next_word};
 use effect_sets::Effect;
 use explain_pages::word_at;
 use itoa::Buffer;
 use refusal_causes::RuleCause;
-use refusal_causes::text_rules::from_place;
 use std::alloc::Global;
 use twe_ast::Name;
 use twe_base::{Bytes, List, MAX_TEXT_BYTES, Memory, Place, Word};
-use twe_frontend::{FrontFail, Refusal, after_bytes, push_effect, read_program};
+use twe_frontend::{FrontFail, Refusal, push_effect, read_program};
 use twe_program::Prog;
+use twe_report::push_place;
 
 /// An edit of a text.
 #[derive(Debug, Drop)]
 pub struct Mend {
     /// What is said of it.
     pub said: Bytes,
+    /// What else comes of it, as it is said after "then the text is accepted".
+    pub comes: Bytes,
     /// The text after it.
     pub text: Bytes,
 }
@@ -40,20 +44,12 @@ fn push_join(text: &mut Bytes, name: &[u8]) -> Result<(), Memory>
     text.push_all(b".join();")
 }
 
-/// `f.join();`
-fn join_text(alloc: Global, name: &[u8]) -> Result<Bytes, Memory>
-    ensures { IfOk result (λ text. text ≡ join_text name.now) }
-{
-    let mut text = Bytes::new(alloc);
-    push_join(&mut text, name)?;
-    Ok(text)
-}
-
 /// `f.join();`, and a space.
 fn join_and_space(alloc: Global, name: &[u8]) -> Result<Bytes, Memory>
     ensures { IfOk result (λ text. text ≡ join_text name.now ++ codes " ") }
 {
-    let mut text = join_text(alloc, name)?;
+    let mut text = Bytes::new(alloc);
+    push_join(&mut text, name)?;
     text.push(b' ')?;
     Ok(text)
 }
@@ -69,51 +65,150 @@ fn join_said(alloc: Global, name: &[u8], place: Place) -> Result<Bytes, Memory>
     Ok(text)
 }
 
-/// A join before the statement of the line.
-fn join_mend(alloc: Global, text: &[u8], name: &[u8], place: Place) -> Result<Mend, Memory>
-    ensures { IfOk result (λ mend. mend ≡ join_mend text.now name.now place) }
+/// What else comes of a join before a spawn.
+fn join_comes(alloc: Global, spawns: bool) -> Result<Bytes, Memory>
+    ensures { IfOk result (λ text. text ≡ join_comes spawns) }
 {
-    let rest = from_statement(text, place.line);
+    if spawns {
+        Bytes::from_slice(alloc, b", and the two tasks run one after the other")
+    } else {
+        Ok(Bytes::new(alloc))
+    }
+}
+
+/// The text with a join before the statement of the line.
+fn with_join(alloc: Global, text: &[u8], name: &[u8], place: Place) -> Result<Bytes, Memory>
+    ensures { IfOk result (λ made. made ≡ with_join text.now name.now place) }
+{
     let join = join_and_space(alloc, name)?;
+    edited(
+        alloc,
+        text,
+        statement_offset(text, place.line),
+        0,
+        join.as_slice(),
+    )
+}
+
+/// A join before the statement of the line.
+fn join_mend(alloc: Global, cut: &CutText, name: &[u8], place: Place) -> Result<Mend, Memory>
+    ensures { IfOk result (λ mend. mend ≡ join_mend cut.now name.now place) }
+{
     Ok(Mend {
         said: join_said(alloc, name, place)?,
-        text: with_end(alloc, text, rest, join.as_slice(), rest)?,
+        comes: join_comes(alloc, spawns_at(cut, place))?,
+        text: with_join(alloc, cut.bytes.as_slice(), name, place)?,
     })
 }
 
-/// That the join stands there, and no longer behind it.
-fn moved_said(alloc: Global, name: &[u8], place: Place) -> Result<Bytes, Memory>
-    ensures { IfOk result (λ text. text ≡ join_said name.now place ++ codes " in place of the next one") }
+/// That the join stands there instead of at another place.
+fn moved_said(alloc: Global, name: &[u8], place: Place, other: Place) -> Result<Bytes, Memory>
+    ensures { IfOk result (λ text. text ≡ join_said name.now place ++ (codes " instead of at " ++ place_text other)) }
 {
     let mut said = join_said(alloc, name, place)?;
-    said.push_all(b" in place of the next one")?;
+    said.push_all(b" instead of at ")?;
+    push_place(&mut said, other)?;
     Ok(said)
 }
 
-/// The same join, and none after it where the first one is now.
-fn moved_join_mend(alloc: Global, text: &[u8], name: &[u8], place: Place) -> Result<Mend, Memory>
-    ensures { IfOk result (λ mend. mend ≡ moved_join_mend text.now name.now place) }
+/// The text with a join before the statement of the line, and none where one is now.
+fn with_moved_join(
+    alloc: Global,
+    text: &[u8],
+    name: &[u8],
+    place: Place,
+    span: Span,
+) -> Result<Bytes, Memory>
+    ensures { IfOk result (λ made. made ≡ with_join (without text.now span) name.now place) }
 {
-    let rest = from_statement(text, place.line);
-    let join = join_text(alloc, name)?;
-    let others = without_first(alloc, join.as_slice(), rest)?;
-    let join = join_and_space(alloc, name)?;
+    let others = without(alloc, text, span)?;
+    with_join(alloc, others.as_slice(), name, place)
+}
+
+/// A join before the statement of the line, and none where one is now.
+fn moved_join_mend(
+    alloc: Global,
+    cut: &CutText,
+    name: &[u8],
+    place: Place,
+    span: Span,
+) -> Result<Mend, Memory>
+    ensures { IfOk result (λ mend. mend ≡ moved_join_mend cut.now name.now place span) }
+{
     Ok(Mend {
-        said: moved_said(alloc, name, place)?,
-        text: with_end(alloc, text, rest, join.as_slice(), others.as_slice())?,
+        said: moved_said(alloc, name, place, span.start.place)?,
+        comes: join_comes(alloc, spawns_at(cut, place))?,
+        text: with_moved_join(alloc, cut.bytes.as_slice(), name, place, span)?,
     })
 }
 
-/// That the effect is declared with those of the name.
-fn effect_said(alloc: Global, effect: &[u8], name: &[u8]) -> Result<Bytes, Memory>
-    ensures { IfOk result (λ text. text ≡ effect_said effect.now name.now) }
+/// Adds the edit that moves this join, if there is one.
+fn push_moved(
+    mends: &mut Mends,
+    alloc: Global,
+    cut: &CutText,
+    name: &[u8],
+    place: Place,
+    span: Option<Span>,
+) -> Result<(), Memory>
+    ensures { OnOk result (mends.new ≡ mends.old ++ moved_mends cut.now name.now place span) }
+{
+    match span {
+        None => Ok(()),
+        Some(span) => mends.push(moved_join_mend(alloc, cut, name, place, span)?),
+    }
+}
+
+/// The first `f.join();` of the same body that comes after the beginning of the line of the place.
+fn join_to_move(cut: &CutText, name: &[u8], place: Place) -> Option<Span>
+    ensures { result ≡ next_join name.now (statement_offset cut.now.bytes place.line) 0 cut.now.spots }
+{
+    let from = statement_offset(cut.bytes.as_slice(), place.line);
+    next_join(name, from, cut.spots.as_slice())
+}
+
+/// The edits for an effect that a spawned task may still have.
+fn out_mends(alloc: Global, cut: &CutText, name: &[u8], place: Place) -> Result<Mends, Memory>
+    ensures { IfOk result (λ mends. mends ≡ out_mends cut.now name.now place) }
+{
+    let mut mends = Mends::new(alloc);
+    mends.push(join_mend(alloc, cut, name, place)?)?;
+    let span = join_to_move(cut, name, place);
+    push_moved(&mut mends, alloc, cut, name, place, span)?;
+    Ok(mends)
+}
+
+/// That the effect stands instead of the `pure` at the place.
+fn pure_said(alloc: Global, effect: &[u8], place: Place) -> Result<Bytes, Memory>
+    ensures { IfOk result (λ text. text ≡ pure_said effect.now place) }
 {
     let mut text = Bytes::from_slice(alloc, b"`")?;
     text.push_all(effect)?;
-    text.push_all(b"` with the effects of `")?;
-    text.push_all(name)?;
-    text.push(b'`')?;
+    text.push_all(b"` instead of `pure` at ")?;
+    push_place(&mut text, place)?;
     Ok(text)
+}
+
+/// That the effect stands before the `{` at the place.
+fn effect_said(alloc: Global, effect: &[u8], place: Place) -> Result<Bytes, Memory>
+    ensures { IfOk result (λ text. text ≡ effect_said effect.now place) }
+{
+    let mut text = Bytes::from_slice(alloc, b"`")?;
+    text.push_all(effect)?;
+    text.push_all(b"` before the `{` at ")?;
+    push_place(&mut text, place)?;
+    Ok(text)
+}
+
+/// The effect instead of the `pure` that begins here.
+fn pure_mend(alloc: Global, text: &[u8], effect: &[u8], mark: Mark) -> Result<Mend, Memory>
+    ensures { IfOk result (λ mend. mend ≡ pure_mend text.now effect.now mark) }
+{
+    Ok(Mend {
+        said: pure_said(alloc, effect, mark.place)?,
+        comes: Bytes::new(alloc),
+        text: edited(alloc, text, mark.offset, 4, effect)?,
+    })
 }
 
 /// An effect, and a space.
@@ -125,55 +220,60 @@ fn effect_and_space(alloc: Global, effect: &[u8]) -> Result<Bytes, Memory>
     Ok(text)
 }
 
-/// An effect more before the body of the declaration at the place.
-fn effect_mend(
-    alloc: Global,
-    text: &[u8],
-    effect: &[u8],
-    name: &[u8],
-    place: Place,
-) -> Result<Mend, Memory>
-    ensures { IfOk result (λ mend. mend ≡ effect_mend text.now effect.now name.now place) }
+/// The text with bytes more after its first `from` ones.
+fn with_more(alloc: Global, text: &[u8], from: usize, effect: &[u8]) -> Result<Bytes, Memory>
+    ensures { IfOk result (λ made. made ≡ edited text.now from 0 (effect.now ++ codes " ")) }
 {
-    let rest = from_first(b"{", from_place(text, place));
     let more = effect_and_space(alloc, effect)?;
-    Ok(Mend {
-        said: effect_said(alloc, effect, name)?,
-        text: with_end(alloc, text, rest, more.as_slice(), rest)?,
-    })
+    edited(alloc, text, from, 0, more.as_slice())
 }
 
-/// The effect in the place of `pure`.
-fn pure_mend(
-    alloc: Global,
-    text: &[u8],
-    effect: &[u8],
-    name: &[u8],
-    place: Place,
-) -> Result<Mend, Memory>
-    ensures { IfOk result (λ mend. mend ≡ pure_mend text.now effect.now name.now place) }
+/// An effect more before the `{` that begins here.
+fn effect_mend(alloc: Global, text: &[u8], effect: &[u8], mark: Mark) -> Result<Mend, Memory>
+    ensures { IfOk result (λ mend. mend ≡ effect_mend text.now effect.now mark) }
 {
-    let rest = from_first(b"pure", from_place(text, place));
     Ok(Mend {
-        said: effect_said(alloc, effect, name)?,
-        text: with_end(alloc, text, rest, effect, after_bytes(rest, 4))?,
+        said: effect_said(alloc, effect, mark.place)?,
+        comes: Bytes::new(alloc),
+        text: with_more(alloc, text, mark.offset, effect)?,
     })
 }
 
-/// The effect in the place of `pure`, if nothing is declared, or else with what is.
-fn declared_mend(
+/// The effect instead of `pure` in the declaration at the place.
+fn pure_mends(alloc: Global, cut: &CutText, effect: &[u8], place: Place) -> Result<Mends, Memory>
+    ensures { IfOk result (λ mends. mends ≡ declared_mends [] cut.now effect.now place) }
+{
+    let mut mends = Mends::new(alloc);
+    if let Some(mark) = next_word(b"pure", spots_at(cut, place)) {
+        mends.push(pure_mend(alloc, cut.bytes.as_slice(), effect, mark)?)?;
+    }
+    Ok(mends)
+}
+
+/// The effect with those of the declaration at the place.
+fn effect_mends(alloc: Global, cut: &CutText, effect: &[u8], place: Place) -> Result<Mends, Memory>
+    ensures { IfOk result (λ mends. mends ≡ mend_at (effect_mend cut.now.bytes effect.now) (next_word (codes "{") (spots_at cut.now place))) }
+{
+    let mut mends = Mends::new(alloc);
+    if let Some(mark) = next_word(b"{", spots_at(cut, place)) {
+        mends.push(effect_mend(alloc, cut.bytes.as_slice(), effect, mark)?)?;
+    }
+    Ok(mends)
+}
+
+/// The effect instead of `pure`, if nothing is declared, or else with what is.
+fn declared_mends(
     alloc: Global,
     declared: &[Effect],
-    text: &[u8],
+    cut: &CutText,
     effect: &[u8],
-    name: &[u8],
     place: Place,
-) -> Result<Mend, Memory>
-    ensures { IfOk result (λ mend. mend ≡ declared_mend declared.now text.now effect.now name.now place) }
+) -> Result<Mends, Memory>
+    ensures { IfOk result (λ mends. mends ≡ declared_mends declared.now cut.now effect.now place) }
 {
     match declared {
-        [] => pure_mend(alloc, text, effect, name, place),
-        [_, ..] => effect_mend(alloc, text, effect, name, place),
+        [] => pure_mends(alloc, cut, effect, place),
+        [_, ..] => effect_mends(alloc, cut, effect, place),
     }
 }
 
@@ -191,79 +291,16 @@ fn effect_text(
     Ok(text)
 }
 
-/// The edit for an effect that is not declared.
-fn undeclared_mends(
-    alloc: Global,
-    text: &[u8],
-    declared: &[Effect],
-    effect: &[u8],
-    place: Place,
-) -> Result<Mends, Memory>
-    ensures { IfOk result (λ mends. mends ≡ declared_mend declared.now text.now effect.now (word_at text.now place) place ∷ []) }
-{
-    let mut mends = Mends::new(alloc);
-    mends.push(declared_mend(alloc, declared, text, effect, word_at(text, place), place)?)?;
-    Ok(mends)
-}
-
-/// Whether some bytes are left.
-fn is_left(bytes: &[u8]) -> bool
-    ensures { result ≡ is_left bytes.now }
-{
-    match bytes {
-        [] => false,
-        [_, ..] => true,
-    }
-}
-
-/// Whether a join of this name stands in the line of the place or after it.
-fn has_join(alloc: Global, text: &[u8], name: &[u8], place: Place) -> Result<bool, Memory>
-    ensures { IfOk result (λ has. has ≡ has_join text.now name.now place) }
-{
-    let join = join_text(alloc, name)?;
-    let rest = from_statement(text, place.line);
-    Ok(is_left(from_first(join.as_slice(), rest)))
-}
-
-/// A join before the statement of the line.
-fn one_join(alloc: Global, text: &[u8], name: &[u8], place: Place) -> Result<Mends, Memory>
-    ensures { IfOk result (λ mends. mends ≡ join_mend text.now name.now place ∷ []) }
-{
-    let mut mends = Mends::new(alloc);
-    mends.push(join_mend(alloc, text, name, place)?)?;
-    Ok(mends)
-}
-
-/// The same, and a join that is moved to there.
-fn both_joins(alloc: Global, text: &[u8], name: &[u8], place: Place) -> Result<Mends, Memory>
-    ensures { IfOk result (λ mends. mends ≡ join_mend text.now name.now place ∷ moved_join_mend text.now name.now place ∷ []) }
-{
-    let mut mends = one_join(alloc, text, name, place)?;
-    mends.push(moved_join_mend(alloc, text, name, place)?)?;
-    Ok(mends)
-}
-
-/// The edits for an effect that a spawned task may still have.
-fn out_mends(alloc: Global, text: &[u8], name: &[u8], place: Place) -> Result<Mends, Memory>
-    ensures { IfOk result (λ mends. mends ≡ out_mends text.now name.now place) }
-{
-    if has_join(alloc, text, name, place)? {
-        both_joins(alloc, text, name, place)
-    } else {
-        one_join(alloc, text, name, place)
-    }
-}
-
 /// The edits that may mend a failure at the place with this cause, in the order in which they are tried.
-pub(crate) fn mends_for(
+fn mends_for(
     alloc: Global,
-    text: &[u8],
+    cut: &CutText,
     place: Place,
     cause: &RuleCause,
     regions: &[Word],
     variables: &[Name],
 ) -> Result<Mends, Memory>
-    ensures { IfOk result (λ mends. mends ≡ mends_for text.now place cause.now regions.now variables.now) }
+    ensures { IfOk result (λ mends. mends ≡ mends_for cut.now place cause.now regions.now variables.now) }
 {
     match cause {
         RuleCause::Undeclared {
@@ -272,30 +309,49 @@ pub(crate) fn mends_for(
             decl_place,
         } => {
             let effect = effect_text(alloc, regions, variables, need)?;
-            let mut mends = undeclared_mends(
+            let mut mends = declared_mends(
                 alloc,
-                text,
                 declared.effects.as_slice(),
+                cut,
                 effect.as_slice(),
                 *decl_place,
             )?;
-            push_later_if(&mut mends, alloc, text, place)?;
+            push_later_if(&mut mends, alloc, cut, place)?;
             Ok(mends)
         }
         RuleCause::Out { future_place, .. } => {
-            let mut mends = out_mends(alloc, text, word_at(text, *future_place), place)?;
-            push_later_if(&mut mends, alloc, text, place)?;
+            let name = word_at(cut.bytes.as_slice(), *future_place);
+            let mut mends = out_mends(alloc, cut, name, place)?;
+            push_later_if(&mut mends, alloc, cut, place)?;
             Ok(mends)
         }
         RuleCause::OutAgain { .. } => {
             let mut mends = Mends::new(alloc);
-            push_later(&mut mends, alloc, text, place)?;
+            push_later(&mut mends, alloc, cut, place)?;
             Ok(mends)
         }
         RuleCause::NotOut { .. }
         | RuleCause::OrderOpen { .. }
         | RuleCause::NotDeterministic { .. } => Ok(Mends::new(alloc)),
     }
+}
+
+/// The edits that may mend a failure of a text at the place with this cause; none if the text is longer than a text may be.
+pub(crate) fn mends_of(
+    alloc: Global,
+    text: &[u8],
+    place: Place,
+    cause: &RuleCause,
+    regions: &[Word],
+    variables: &[Name],
+) -> Result<Mends, Memory>
+    ensures { IfOk result (AreMends text.now place cause.now regions.now variables.now) }
+{
+    if text.len() > MAX_TEXT_BYTES {
+        return Ok(Mends::new(alloc));
+    }
+    let cut = cut_text(alloc, text)?;
+    mends_for(alloc, &cut, place, cause, regions, variables)
 }
 
 /// What is said of an edit after which the text is accepted.
@@ -305,6 +361,7 @@ fn mend_remark(alloc: Global, mend: &Mend) -> Result<Bytes, Memory>
     let mut text = Bytes::from_slice(alloc, b"mend: ")?;
     text.push_all(mend.said.as_slice())?;
     text.push_all(b"; then the text is accepted")?;
+    text.push_all(mend.comes.as_slice())?;
     Ok(text)
 }
 
