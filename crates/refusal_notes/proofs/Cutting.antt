@@ -2,9 +2,8 @@
 use Rattle.std.proofs.Common.{◌≡◌, ℕ, ◌+◌, ◌≤◌, List, [], ◌∷◌, ◌++◌, length, take, drop, not, refl, sym, ap, ◌∙◌, append_assoc, arith}
 use Rattle.std.specs.Prelude.{count_by}
 use Rattle.std.specs.List.{suffix_len}
-use Rattle.std.proofs.lemmas.List.{append-nil, length-append, take_drop}
+use Rattle.std.proofs.lemmas.List.{append-nil, length-append, take-append-drop}
 use Rattle.std.proofs.lemmas.List.Sums.{count_by-le-length, suffix_len-le-length}
-use Rattle.twe_base.specs.declared.place.Place.{Place}
 use Rattle.twe_lexer.specs.declared.lexeme.Lexeme.{Lexeme}
 use Rattle.twe_lexer.specs.Front.{Opens}
 use Rattle.twe_lexer.specs.Lexeme.{is_line_end}
@@ -44,12 +43,12 @@ column_fits text spots start rest has =
 pub more_cut : (text : List ℕ) (spots news : List Spot) (start next : Mark) (rest bytes : List ℕ) (lexeme : Lexeme)
     → HasSpots text spots start rest → Opens lexeme rest → bytes ≡ take lexeme.len rest
     → ((before : List ℕ) (more : List (List ℕ)) → start ≡ mark_after before
-      → spots ++ spots_from before (bytes ∷ more) ≡ news ++ spots_from (before ++ bytes) more)
+    → spots ++ spots_from before (bytes ∷ more) ≡ news ++ spots_from (before ++ bytes) more)
     → ((before : List ℕ) → start ≡ mark_after before → next ≡ mark_after (before ++ bytes))
     → HasSpots text news next (drop lexeme.len rest)
 more_cut text spots news start next rest bytes lexeme has opens is adds moves =
     let later = drop lexeme.len rest in
-    let split : rest ≡ bytes ++ later = sym (take_drop lexeme.len rest) ∙ ap (λ (front : List ℕ). front ++ later) (sym is) in
+    let split : rest ≡ bytes ++ later = sym (take-append-drop lexeme.len rest) ∙ ap (λ (front : List ℕ). front ++ later) (sym is) in
     record {
       lexemes = has.lexemes ++ bytes ∷ [];
       before = has.before ++ bytes;

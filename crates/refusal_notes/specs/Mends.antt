@@ -67,21 +67,25 @@ out_mends cut name place =
     join_mend cut name place
     ∷ moved_mends cut name place (next_join name (statement_offset cut.bytes place.line) 0 cut.spots)
 
+-- an effect, what is done with it, and where
+abbrev pub said_at : List ℕ → List ℕ → Place → List ℕ
+said_at effect words place = codes "`" ++ (effect ++ (words ++ place_text place))
+
 -- `writes A` instead of `pure` at 4:18
-abbrev pub pure_said : List ℕ → Place → List ℕ
-pure_said effect place = codes "`" ++ (effect ++ (codes "` instead of `pure` at " ++ place_text place))
+abbrev pub pure_words : List ℕ
+pure_words = codes "` instead of `pure` at "
 
 -- `writes B` before the `{` at 4:30
-abbrev pub effect_said : List ℕ → Place → List ℕ
-effect_said effect place = codes "`" ++ (effect ++ (codes "` before the `{` at " ++ place_text place))
+abbrev pub effect_words : List ℕ
+effect_words = codes "` before the `{` at "
 
 -- the effect instead of the `pure` that begins here
 abbrev pub pure_mend : List ℕ → List ℕ → Mark → Mend
-pure_mend text effect mark = mend_by (pure_said effect mark.place) (edited text mark.offset 4 effect)
+pure_mend text effect mark = mend_by (said_at effect pure_words mark.place) (edited text mark.offset 4 effect)
 
 -- an effect more before the `{` that begins here
 abbrev pub effect_mend : List ℕ → List ℕ → Mark → Mend
-effect_mend text effect mark = mend_by (effect_said effect mark.place) (edited text mark.offset 0 (effect ++ codes " "))
+effect_mend text effect mark = mend_by (said_at effect effect_words mark.place) (edited text mark.offset 0 (effect ++ codes " "))
 
 -- an edit at a token, if there is one
 abbrev pub mend_at : (Mark → Mend) → Option Mark → List Mend

@@ -5,7 +5,7 @@ ghost use Rattle.twe_frontend.specs.Accepted.{Accepted, IsRefusal};
 ghost use Rattle.twe_report.specs.Texts.{place_text};
 ghost use Rattle.refusal_notes.specs.Edits.{edited, statement_offset, without};
 ghost use Rattle.refusal_notes.specs.LaterMends.{spots_at};
-ghost use Rattle.refusal_notes.specs.Mends.{AreMends, AreTried, IsTried, TellsAcceptance, declared_mends, effect_mend, effect_said, join_comes, join_mend, join_said, join_text, mend_at, mend_remark, mends_for, moved_join_mend, moved_mends, out_mends, pure_mend, pure_said, with_join};
+ghost use Rattle.refusal_notes.specs.Mends.{AreMends, AreTried, IsTried, TellsAcceptance, declared_mends, effect_mend, join_comes, join_mend, join_said, join_text, mend_at, mend_remark, mends_for, moved_join_mend, moved_mends, out_mends, pure_mend, said_at, with_join};
 ghost use Rattle.refusal_notes.specs.Spots.{next_join, next_word};
 
 use crate::edits::{edited, statement_offset, without};
@@ -178,24 +178,13 @@ fn out_mends(alloc: Global, cut: &CutText, name: &[u8], place: Place) -> Result<
     Ok(mends)
 }
 
-/// That the effect stands instead of the `pure` at the place.
-fn pure_said(alloc: Global, effect: &[u8], place: Place) -> Result<Bytes, Memory>
-    ensures { IfOk result (λ text. text ≡ pure_said effect.now place) }
+/// What is done with an effect, and where.
+fn said_at(alloc: Global, effect: &[u8], words: &[u8], place: Place) -> Result<Bytes, Memory>
+    ensures { IfOk result (λ text. text ≡ said_at effect.now words.now place) }
 {
     let mut text = Bytes::from_slice(alloc, b"`")?;
     text.push_all(effect)?;
-    text.push_all(b"` instead of `pure` at ")?;
-    push_place(&mut text, place)?;
-    Ok(text)
-}
-
-/// That the effect stands before the `{` at the place.
-fn effect_said(alloc: Global, effect: &[u8], place: Place) -> Result<Bytes, Memory>
-    ensures { IfOk result (λ text. text ≡ effect_said effect.now place) }
-{
-    let mut text = Bytes::from_slice(alloc, b"`")?;
-    text.push_all(effect)?;
-    text.push_all(b"` before the `{` at ")?;
+    text.push_all(words)?;
     push_place(&mut text, place)?;
     Ok(text)
 }
@@ -205,7 +194,7 @@ fn pure_mend(alloc: Global, text: &[u8], effect: &[u8], mark: Mark) -> Result<Me
     ensures { IfOk result (λ mend. mend ≡ pure_mend text.now effect.now mark) }
 {
     Ok(Mend {
-        said: pure_said(alloc, effect, mark.place)?,
+        said: said_at(alloc, effect, b"` instead of `pure` at ", mark.place)?,
         comes: Bytes::new(alloc),
         text: edited(alloc, text, mark.offset, 4, effect)?,
     })
@@ -233,7 +222,7 @@ fn effect_mend(alloc: Global, text: &[u8], effect: &[u8], mark: Mark) -> Result<
     ensures { IfOk result (λ mend. mend ≡ effect_mend text.now effect.now mark) }
 {
     Ok(Mend {
-        said: effect_said(alloc, effect, mark.place)?,
+        said: said_at(alloc, effect, b"` before the `{` at ", mark.place)?,
         comes: Bytes::new(alloc),
         text: with_more(alloc, text, mark.offset, effect)?,
     })

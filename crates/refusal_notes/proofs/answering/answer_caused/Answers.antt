@@ -7,9 +7,9 @@ use Rattle.twe_io.specs.declared.status.Status.TheVariants.{Refused}
 use Rattle.twe_io.specs.Answers.{on_out}
 use Rattle.explain_pages.specs.declared.places.note.Explanation.{Explanation}
 use Rattle.refusal_notes.specs.declared.mends.Mend.{Mend}
-use Rattle.refusal_notes.specs.Answers.{ExplainDue, caused_explanation, mends_of}
+use Rattle.refusal_notes.specs.Answers.{AreMendsOf, ExplainDue, caused_explanation}
 use Rattle.refusal_notes.specs.Meetings.{IsMeetingTold}
-use Rattle.refusal_notes.specs.Mends.{AreTried, mends_for}
+use Rattle.refusal_notes.specs.Mends.{AreMends}
 use Rattle.refusal_notes.specs.Explanation.{explanation_by}
 use Rattle.explain_pages.specs.Page.{refused_text}
 use Rattle.explain_pages.specs.names.Variables.{variables_at}
@@ -38,18 +38,21 @@ returns c =
     c.in_ok-explanation.ensures
     ∙ ap (λ (xs : List (List ℕ)). explanation_by refusal cause xs c.as_slice-3.result.now) regions
     ∙ ap (λ (xs : List written.Name). explanation_by refusal cause p.regions xs) (c.as_slice-3.ensures ∙ names) in
-    let mends : c.as_slice-5.result.now ≡ mends_of text refusal cause tree p =
-    c.as_slice-5.ensures ∙ c.in_ok-mends.ensures
-    ∙ ap (λ (xs : List (List ℕ)). mends_for text refusal.place cause xs c.as_slice-2.result.now) regions
-    ∙ ap (λ (xs : List written.Name). mends_for text refusal.place cause p.regions xs) (c.as_slice-2.ensures ∙ names) in
+    let mends : List Mend = c.as_slice-5.result.now in
+    let by_regions : AreMends text refusal.place cause p.regions c.as_slice-2.result.now c.in_ok-mends.mends =
+    subst (λ (xs : List (List ℕ)). AreMends text refusal.place cause xs c.as_slice-2.result.now c.in_ok-mends.mends) regions
+    c.in_ok-mends.ensures in
+    let by_names : AreMends text refusal.place cause p.regions variables c.in_ok-mends.mends =
+    subst (λ (xs : List written.Name). AreMends text refusal.place cause p.regions xs c.in_ok-mends.mends) (c.as_slice-2.ensures ∙ names)
+    by_regions in
+    let may_mend : AreMendsOf text refusal cause tree p mends =
+    subst (λ (ms : List Mend). AreMends text refusal.place cause p.regions variables ms) (sym c.as_slice-5.ensures) by_names in
     let named : c.as_slice-4.result.now ≡ variables = c.as_slice-4.ensures ∙ names in
     let at_once : IsMeetingTold p c.as_slice-4.result.now cause (caused_explanation refusal cause tree p).remarks told =
     subst (λ (e : Explanation). IsMeetingTold p c.as_slice-4.result.now cause e.remarks told) is c.in_ok-tell_meeting.ensures in
     let before : IsMeetingTold p variables cause (caused_explanation refusal cause tree p).remarks told =
     subst (λ (xs : List written.Name). IsMeetingTold p xs cause (caused_explanation refusal cause tree p).remarks told) named at_once in
-    let tried : AreTried (mends_of text refusal cause tree p) told remarks =
-    subst (λ (ms : List Mend). AreTried ms told remarks) mends c.in_ok-try_mends.ensures in
     subst (ExplainDue wanted text)
     (sym (c.on_out.ensures ∙ ap (on_out Refused) (c.in_ok-lines.ensures
     ∙ ap (λ (e : Explanation). refused_text wanted text refusal (record e { remarks = remarks })) is)))
-    (ExplainDue.caused refusal cause tree p told remarks c.requires before tried)
+    (ExplainDue.caused refusal cause tree p mends told remarks c.requires before may_mend c.in_ok-try_mends.ensures)
