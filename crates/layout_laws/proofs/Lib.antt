@@ -1,0 +1,6 @@
+pub mod AllowedBytes
+pub mod KeptTree
+pub mod MovedExpressions
+pub mod MovedItems
+pub mod MovedStatements
+pub mod SameTree

@@ -1,0 +1,6 @@
+//! Laws of texts whose tokens have the same kinds: they have the same tree, but for places. So the layout of a text keeps its tree.
+#![tactic(auto)]
+
+mod laws;
+
+pub use laws::{layout_keeps_the_tree, same_kinds_same_tree};
