@@ -4,3 +4,4 @@ pub mod MovedExpressions
 pub mod MovedItems
 pub mod MovedStatements
 pub mod SameTree
+pub mod Stopping

@@ -1,7 +1,14 @@
 //! Laws of texts whose tokens have the same kinds.
 ghost use Rattle.std.specs.Prelude.{◌≡◌, ℕ, List, map};
+ghost use Rattle.twe_base.specs.declared.memory.Memory.{Memory};
+ghost use Rattle.twe_base.specs.declared.place.Place.{Place};
 ghost use Rattle.twe_ast.specs.declared.item.Ast.{Ast};
+ghost use Rattle.twe_lexer.specs.declared.lexeme.LexemeFail.{LexemeFail};
+ghost use Rattle.twe_lexer.specs.declared.lexeme.LexemeFail.TheVariants.{OutOfMemory};
 ghost use Rattle.twe_lexer.specs.declared.token.Token.{Token};
+ghost use Rattle.text_pieces.specs.Pieces.{StopsCut};
+ghost use Rattle.twe_parser.specs.declared.fail.SRule.{SRule};
+ghost use Rattle.twe_parser.specs.Fails.{Fails};
 ghost use Rattle.twe_parser.specs.Writes.{Writes};
 ghost use Rattle.ast_printer.specs.BareItem.{EqualButForPlaces};
 ghost use Rattle.ast_printer.specs.ParsesAgain.{IsTextOf, ParsesAgain};
@@ -18,4 +25,10 @@ pub fn same_kinds_same_tree()
 /// A text that fails no rule of the text fails none in its layout, and has the same tree there, except for the places in it.
 pub fn layout_keeps_the_tree()
     ensures { (text written : List ℕ) (tree : Ast) → IsInLayout text written → IsTextOf text tree → ParsesAgain written tree }
+{}
+
+/// A text that fails no rule of the text can be cut into its pieces: want of memory alone stops that.
+pub fn only_memory_stops_a_cut()
+    ensures { (text : List ℕ) (fail : LexemeFail) → ((rule : SRule) (place : Place) → ¬ Fails text rule place)
+        → StopsCut fail text → (memory : Memory) × (fail ≡ OutOfMemory memory) }
 {}

@@ -1,0 +1,87 @@
+//! The answer to a text.
+ghost use Rattle.std.specs.Prelude.{◌≤◌, length, IfOk};
+ghost use Rattle.twe_base.specs.Language.{max_text_bytes};
+ghost use Rattle.twe_frontend.specs.Accepted.{IsTreeOf};
+ghost use Rattle.twe_ast.specs.declared.item.Ast.{Ast as AnyAst};
+ghost use Rattle.twe_format.specs.Answers.{FormatDue, HasLayout, check_answer};
+ghost use Rattle.std.specs.Prelude.{◌≡◌};
+
+use crate::comparing::differing_lines;
+use crate::text::long_layout_text;
+use crate::words::FormatRequest;
+use std::alloc::Global;
+use text_layout::lay_out;
+use twe_ast::Ast;
+use twe_base::{Bytes, MAX_TEXT_BYTES, Memory};
+use twe_frontend::{FrontFail, read_tree};
+use twe_io::{Answer, Status};
+use twe_lexer::LexemeFail;
+use twe_report::refusal_text;
+
+/// The answer to a text.
+pub(crate) fn answer_text(
+    alloc: Global,
+    request: FormatRequest,
+    text: &[u8],
+) -> Result<Answer, Memory>
+    requires { length text.now ≤ max_text_bytes }
+    ensures { IfOk result (FormatDue request text.now) }
+{
+    match read_tree(alloc, text) {
+        Ok(tree) => answer_tree(alloc, request, text, &tree),
+        Err(FrontFail::Refused(refusal)) => Ok(Answer::on_err(
+            alloc,
+            Status::Refused,
+            refusal_text(alloc, refusal)?,
+        )),
+        Err(FrontFail::OutOfMemory(memory)) => Err(memory),
+    }
+}
+
+/// A text with this tree in its layout.
+fn layout_of(alloc: Global, text: &[u8], tree: &Ast) -> Result<Bytes, Memory>
+    requires { IsTreeOf text.now tree.now }
+    ensures { IfOk result (HasLayout text.now tree.now) }
+{
+    let _ = tree;
+    match lay_out(alloc, text) {
+        Ok(laid) => Ok(laid),
+        Err(LexemeFail::OutOfMemory(memory)) => Err(memory),
+        Err(LexemeFail::NotAllowed(_) | LexemeFail::Unclosed) => unreachable!(),
+    }
+}
+
+/// The answer to a text with this tree.
+fn answer_tree(
+    alloc: Global,
+    request: FormatRequest,
+    text: &[u8],
+    tree: &Ast,
+) -> Result<Answer, Memory>
+    requires { length text.now ≤ max_text_bytes }
+    requires { IsTreeOf text.now tree.now }
+    ensures { IfOk result (FormatDue request text.now) }
+{
+    let laid = layout_of(alloc, text, tree)?;
+    if laid.len() > MAX_TEXT_BYTES {
+        let line = long_layout_text(alloc)?;
+        return Ok(Answer::on_err(alloc, Status::TooLong, line));
+    }
+    match request {
+        FormatRequest::Write => Ok(Answer::on_out(alloc, Status::Done, laid)),
+        FormatRequest::Check => check_answer(alloc, text, laid.as_slice()),
+    }
+}
+
+/// The answer to a text whose lines are compared with those of its layout.
+fn check_answer(alloc: Global, text: &[u8], laid: &[u8]) -> Result<Answer, Memory>
+    requires { length text.now ≤ max_text_bytes }
+    requires { length laid.now ≤ max_text_bytes }
+    ensures { IfOk result (λ answer. answer ≡ check_answer text.now laid.now) }
+{
+    if text == laid {
+        return Ok(Answer::on_out(alloc, Status::Done, Bytes::new(alloc)));
+    }
+    let lines = differing_lines(alloc, text, laid)?;
+    Ok(Answer::on_out(alloc, Status::Refused, lines))
+}
