@@ -1,40 +1,25 @@
 -- A text in its layout has the tree of the text.
-use Rattle.std.proofs.Common.{◌≡◌, ℕ, ◌⊎◌, inl, inr, List, [], ◌∷◌, ◌++◌, append-nil, refl, sym, ap, ◌∙◌, subst}
+use Rattle.std.proofs.Common.{◌≡◌, ℕ, List, [], ◌∷◌, refl, sym, ap, ◌∙◌, subst}
 use Rattle.twe_ast.specs.declared.item.Ast.{Ast}
 use Rattle.twe_lexer.specs.declared.token.Token.{Token}
 use Rattle.twe_lexer.specs.declared.token.TokenKind.{TokenKind}
-use Rattle.twe_lexer.specs.Lexeme.{IsLexeme}
 use Rattle.twe_lexer.specs.Places.{place_after}
-use Rattle.twe_lexer.specs.Tokens.{AreFirstLexemes, tokens_from, BeginsWith}
+use Rattle.twe_lexer.specs.Tokens.{tokens_from, BeginsWith}
 use Rattle.twe_parser.specs.declared.fail.SRule.TheVariants.{S1}
 use Rattle.twe_parser.specs.Limits.{limits_at_start}
-use Rattle.twe_parser.proofs.Cuts.{no_lexeme, compare_cuts}
-use Rattle.twe_parser.proofs.Located.{empty_front}
 use Rattle.ast_printer.specs.ParsesAgain.{IsTextOf, ParsesAgain}
 use Rattle.ast_printer.proofs.Accepted.{tokens_pass, is_accepted}
 use Rattle.ast_printer.proofs.Passing.{AllPass}
 use Rattle.ast_printer.proofs.Supply.{kinds_in}
 use Rattle.text_layout.specs.InLayout.{IsInLayout}
 use Rattle.layout_laws.proofs.AllowedBytes.{AllAllowed, text_allowed, layout_allowed}
+use Rattle.layout_laws.proofs.OneCut.{same_tokens}
 use Rattle.layout_laws.proofs.SameTree.{kinds_of, same_tree}
-
--- nothing more can be cut from nothing
-none_more : (more : List (List ℕ)) (rest : List ℕ) → AreFirstLexemes more [] rest → ◌≡◌ {A = List (List ℕ)} more []
-none_more [] rest cut = refl
-none_more (first ∷ others) rest (later, found, cut) = absurd (no_lexeme (subst IsLexeme (empty_front first later (sym found.split)) found.lexeme))
 
 -- the kinds, by the name that the printer has for them
 same_kind_lists : (tokens : List Token) → kinds_in tokens ≡ kinds_of tokens
 same_kind_lists [] = refl
 same_kind_lists (token ∷ tokens) = ap (λ kinds. token.kind ∷ kinds) (same_kind_lists tokens)
-
--- a text has one list of tokens
-pub same_tokens : (text : List ℕ) (one other : List Token) → BeginsWith text one [] → BeginsWith text other [] → one ≡ other
-same_tokens text one other front whole = by_cut (compare_cuts front.lexemes whole.lexemes text [] [] front.cut whole.cut)
-  where
-    by_cut : ((more : List (List ℕ)) × (whole.lexemes ≡ front.lexemes ++ more) × AreFirstLexemes more [] []) ⊎ ((more : List (List ℕ)) × (front.lexemes ≡ whole.lexemes ++ more) × AreFirstLexemes more [] []) → one ≡ other
-    by_cut (inl (more, is, cut)) = front.same ∙ ap (tokens_from []) (sym (is ∙ ap (λ m. front.lexemes ++ m) (none_more more [] cut) ∙ append-nil front.lexemes)) ∙ sym whole.same
-    by_cut (inr (more, is, cut)) = front.same ∙ ap (tokens_from []) (is ∙ ap (λ m. whole.lexemes ++ m) (none_more more [] cut) ∙ append-nil whole.lexemes) ∙ sym whole.same
 
 module _ (text written : List ℕ) (tree : Ast) (laid : IsInLayout text written) (its : IsTextOf text tree) where
   -- the tokens of what was written

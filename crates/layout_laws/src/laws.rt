@@ -27,6 +27,11 @@ pub fn layout_keeps_the_tree()
     ensures { (text written : List ℕ) (tree : Ast) → IsInLayout text written → IsTextOf text tree → ParsesAgain written tree }
 {}
 
+/// A text has one layout.
+pub fn one_layout()
+    ensures { (text one other : List ℕ) → IsInLayout text one → IsInLayout text other → one ≡ other }
+{}
+
 /// A text that fails no rule of the text can be cut into its pieces: want of memory alone stops that.
 pub fn only_memory_stops_a_cut()
     ensures { (text : List ℕ) (fail : LexemeFail) → ((rule : SRule) (place : Place) → ¬ Fails text rule place)

@@ -3,4 +3,4 @@
 
 mod laws;
 
-pub use laws::{layout_keeps_the_tree, only_memory_stops_a_cut, same_kinds_same_tree};
+pub use laws::{layout_keeps_the_tree, one_layout, only_memory_stops_a_cut, same_kinds_same_tree};

@@ -1,10 +1,12 @@
 //! The answer to a text.
-ghost use Rattle.std.specs.Prelude.{◌≤◌, length, IfOk};
+ghost use Rattle.std.specs.Prelude.{◌≡◌, ◌≤◌, length, IfOk};
 ghost use Rattle.twe_base.specs.Language.{max_text_bytes};
+ghost use Rattle.twe_base.specs.declared.place.Place.{Place};
+ghost use Rattle.text_pieces.specs.Pieces.{StopsCut};
+ghost use Rattle.twe_parser.specs.declared.fail.SRule.{SRule};
+ghost use Rattle.twe_parser.specs.Fails.{Fails};
 ghost use Rattle.twe_frontend.specs.Accepted.{IsTreeOf};
-ghost use Rattle.twe_ast.specs.declared.item.Ast.{Ast as AnyAst};
 ghost use Rattle.twe_format.specs.Answers.{FormatDue, HasLayout, check_answer};
-ghost use Rattle.std.specs.Prelude.{◌≡◌};
 
 use crate::comparing::differing_lines;
 use crate::text::long_layout_text;
@@ -38,6 +40,18 @@ pub(crate) fn answer_text(
     }
 }
 
+/// Why a text that fails no rule of the text could not be cut into its pieces: memory ran out.
+fn memory_of(text: &[u8], fail: LexemeFail) -> Memory
+    requires keeps { (rule : SRule) (place : Place) → ¬ Fails text.now rule place }
+    requires stops { StopsCut fail text.now }
+{
+    let _ = text;
+    match fail {
+        LexemeFail::OutOfMemory(memory) => memory,
+        LexemeFail::NotAllowed(_) | LexemeFail::Unclosed => unreachable!(),
+    }
+}
+
 /// A text with this tree in its layout.
 fn layout_of(alloc: Global, text: &[u8], tree: &Ast) -> Result<Bytes, Memory>
     requires { IsTreeOf text.now tree.now }
@@ -46,8 +60,7 @@ fn layout_of(alloc: Global, text: &[u8], tree: &Ast) -> Result<Bytes, Memory>
     let _ = tree;
     match lay_out(alloc, text) {
         Ok(laid) => Ok(laid),
-        Err(LexemeFail::OutOfMemory(memory)) => Err(memory),
-        Err(LexemeFail::NotAllowed(_) | LexemeFail::Unclosed) => unreachable!(),
+        Err(fail) => Err(memory_of(text, fail)),
     }
 }
 
@@ -58,8 +71,8 @@ fn answer_tree(
     text: &[u8],
     tree: &Ast,
 ) -> Result<Answer, Memory>
-    requires { length text.now ≤ max_text_bytes }
-    requires { IsTreeOf text.now tree.now }
+    requires length { length text.now ≤ max_text_bytes }
+    requires parsed { IsTreeOf text.now tree.now }
     ensures { IfOk result (FormatDue request text.now) }
 {
     let laid = layout_of(alloc, text, tree)?;
@@ -75,8 +88,8 @@ fn answer_tree(
 
 /// The answer to a text whose lines are compared with those of its layout.
 fn check_answer(alloc: Global, text: &[u8], laid: &[u8]) -> Result<Answer, Memory>
-    requires { length text.now ≤ max_text_bytes }
-    requires { length laid.now ≤ max_text_bytes }
+    requires text { length text.now ≤ max_text_bytes }
+    requires laid { length laid.now ≤ max_text_bytes }
     ensures { IfOk result (λ answer. answer ≡ check_answer text.now laid.now) }
 {
     if text == laid {

@@ -1,6 +1,7 @@
 //! The lines at which a text is not in its layout.
 ghost use Rattle.std.specs.Prelude.{◌≡◌, ◌≤◌, ◌++◌, ◌∷◌, List, length, drop, IfOk, OnOk};
 ghost use Rattle.std.specs.List.{flat_map};
+ghost use Rattle.twe_base.specs.Language.{max_text_bytes};
 ghost use Rattle.twe_format.specs.declared.lines.Line.{Line as AnyLine};
 ghost use Rattle.twe_format.specs.Differences.{is_same_line, shown_line, added_line, count_ahead, stands_first, differing, differing_lines};
 
@@ -83,20 +84,19 @@ fn differing(alloc: Global, lines: &[Line], laid: &[Line]) -> Result<Bytes, Memo
     ensures { IfOk result (λ text. text ≡ differing lines.now laid.now) }
 {
     let mut text = Bytes::new(alloc);
-    let mut rest = laid;
+    let mut at = 0;
     for line in lines {
-        let taken = push_difference(&mut text, line, rest)?;
-        rest = &rest[taken..];
+        at += push_difference(&mut text, line, &laid[at..])?;
     }
-    push_added(&mut text, rest)?;
+    push_added(&mut text, &laid[at..])?;
     Ok(text)
 }
 
 /// The lines at which a text is not in its layout: those that it has and its layout has not, and those that the layout has
 /// instead. It takes time and memory linear in both texts.
 pub(crate) fn differing_lines(alloc: Global, text: &[u8], laid: &[u8]) -> Result<Bytes, Memory>
-    requires { length text.now ≤ 1048576 }
-    requires { length laid.now ≤ 1048576 }
+    requires text { length text.now ≤ max_text_bytes }
+    requires laid { length laid.now ≤ max_text_bytes }
     ensures { IfOk result (λ lines. lines ≡ differing_lines text.now laid.now) }
 {
     let lines = lines_of(alloc, text)?;

@@ -5,13 +5,11 @@ ghost use Rattle.twe_format.specs.declared.words.FormatRequest.{FormatRequest as
 ghost use Rattle.twe_format.specs.Answers.{FormatDue};
 
 use twe_frontend::one_refusal;
-use twe_parser::one_tree;
 
 /// What `twe_format` writes for a text, and its status, are functions of the words and the text.
 pub fn one_format_answer()
     ensures { (request : AnyRequest) (text : List ℕ) (answer other : Answer) → FormatDue request text answer
         → FormatDue request text other → answer ≡ other }
 {
-    one_tree();
     one_refusal();
 }

@@ -1,6 +1,6 @@
 //! The lines of a text.
-ghost use Rattle.std.specs.Prelude.{◌≡◌, ◌≤◌, ◌+◌, ◌<◌, ◌^◌, length, count_by, IfOk};
-ghost use Rattle.twe_lexer.specs.Lexeme.{is_blank};
+ghost use Rattle.std.specs.Prelude.{◌≡◌, ◌≤◌, ◌+◌, length, count_by, IfOk};
+ghost use Rattle.twe_base.specs.Language.{max_text_bytes};
 ghost use Rattle.twe_format.specs.Lines.{is_solid, first_line, next_line, lines_of};
 
 use std::alloc::Global;
@@ -48,8 +48,8 @@ impl Line {
 
     /// The line after this one, of which nothing is read.
     fn next(&self, alloc: Global) -> Self
-        requires { self.now.number < 2 ^ 63 }
-        requires { self.now.before + length self.now.bytes < 2 ^ 63 }
+        requires number { self.now.number ≤ max_text_bytes }
+        requires before { self.now.before + length self.now.bytes ≤ max_text_bytes }
         ensures { result ≡ next_line self.now }
     {
         Line {
@@ -63,7 +63,7 @@ impl Line {
 
 /// The lines of a text. It takes time and memory linear in the length of the text.
 pub(crate) fn lines_of(alloc: Global, text: &[u8]) -> Result<List<Line>, Memory>
-    requires { length text.now < 2 ^ 62 }
+    requires { length text.now ≤ max_text_bytes }
     ensures { IfOk result (λ lines. lines ≡ lines_of text.now) }
 {
     let mut lines: List<Line> = List::new(alloc);
