@@ -6,6 +6,7 @@ ghost use Rattle.text_pieces.specs.Pieces.{StopsCut};
 ghost use Rattle.twe_parser.specs.declared.fail.SRule.{SRule};
 ghost use Rattle.twe_parser.specs.Fails.{Fails};
 ghost use Rattle.twe_frontend.specs.Accepted.{IsTreeOf};
+ghost use Rattle.twe_frontend.specs.Reads.{IsTextFailure, TreeHasCause};
 ghost use Rattle.twe_format.specs.Answers.{FormatDue, HasLayout, check_answer};
 
 use crate::comparing::differing_lines;
@@ -15,7 +16,7 @@ use std::alloc::Global;
 use text_layout::lay_out;
 use twe_ast::Ast;
 use twe_base::{Bytes, MAX_TEXT_BYTES, Memory};
-use twe_frontend::{FrontFail, read_tree};
+use twe_frontend::{FrontFail, Refusal, read_tree};
 use twe_io::{Answer, Status};
 use twe_lexer::LexemeFail;
 use twe_report::refusal_text;
@@ -31,13 +32,40 @@ pub(crate) fn answer_text(
 {
     match read_tree(alloc, text) {
         Ok(tree) => answer_tree(alloc, request, text, &tree),
-        Err(FrontFail::Refused(refusal)) => Ok(Answer::on_err(
-            alloc,
-            Status::Refused,
-            refusal_text(alloc, refusal)?,
-        )),
-        Err(FrontFail::OutOfMemory(memory)) => Err(memory),
+        Err(fail) => answer_fail(alloc, request, text, &fail),
     }
+}
+
+/// The answer to a text that has no tree.
+fn answer_fail(
+    alloc: Global,
+    request: FormatRequest,
+    text: &[u8],
+    fail: &FrontFail,
+) -> Result<Answer, Memory>
+    requires { TreeHasCause text.now fail.now }
+    ensures { IfOk result (FormatDue request text.now) }
+{
+    match fail {
+        FrontFail::Refused(refusal) => answer_refusal(alloc, request, text, *refusal),
+        FrontFail::OutOfMemory(memory) => Err(*memory),
+    }
+}
+
+/// The answer to a text that fails this rule of the text first.
+fn answer_refusal(
+    alloc: Global,
+    request: FormatRequest,
+    text: &[u8],
+    refusal: Refusal,
+) -> Result<Answer, Memory>
+    requires { IsTextFailure text.now refusal.rule refusal.place }
+    ensures { IfOk result (FormatDue request text.now) }
+{
+    let _ = request;
+    let _ = text;
+    let line = refusal_text(alloc, refusal)?;
+    Ok(Answer::on_err(alloc, Status::Refused, line))
 }
 
 /// Why a text that fails no rule of the text could not be cut into its pieces: memory ran out.

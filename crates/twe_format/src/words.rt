@@ -20,7 +20,12 @@ pub enum FormatRequest {
 pub(crate) fn format_request(words: &[Word]) -> Option<FormatRequest>
     ensures { result ≡ format_request words.now }
 {
-    by_word(words, FormatRequest::Write, b"--check", FormatRequest::Check)
+    by_word(
+        words,
+        FormatRequest::Write,
+        b"--check",
+        FormatRequest::Check,
+    )
 }
 
 /// The usage line.
