@@ -1,8 +1,7 @@
 -- A text has one answer.
-use Rattle.std.proofs.Common.{◌≡◌, ◌<◌, ◌≤◌, ℕ, List, length, refl, sym, ap, ◌∙◌, subst, arith}
+use Rattle.std.proofs.Common.{◌≡◌, ◌<◌, ◌≤◌, ℕ, List, length, refl, sym, ap, ◌∙◌, arith}
 use Rattle.twe_base.specs.declared.place.Place.{Place}
 use Rattle.twe_ast.specs.declared.item.Ast.{Ast}
-use Rattle.text_layout.specs.InLayout.{IsInLayout}
 use Rattle.twe_io.specs.declared.answer.Answer.{Answer}
 use Rattle.twe_io.specs.declared.status.Status.TheVariants.{Done, Refused}
 use Rattle.twe_io.specs.Answers.{on_err, on_out}

@@ -6,7 +6,7 @@ use Rattle.std.specs.Prelude.{ℕ, ◌==◌, nat_lt, Bool, false, not, ◌&&◌,
 use Rattle.std.specs.List.{flat_map, prefix_len}
 use Rattle.std.specs.Str.{byte}
 use Rattle.twe_format.specs.declared.lines.Line.{Line}
-use Rattle.twe_format.specs.Lines.{lines_of}
+use Rattle.twe_format.specs.Lines.{numbered_lines}
 
 -- the same line: behind as many bytes other than white space, and with the same bytes
 abbrev pub is_same_line : Line → Line → Bool
@@ -14,16 +14,16 @@ is_same_line line other =
     (line.before == other.before) && ((if line.ended then other.ended else not other.ended) && bytes_eq line.bytes other.bytes)
 
 -- a line with its number behind this sign, as `-3: int x;`
-abbrev pub shown_line : ℕ → Line → List ℕ
-shown_line sign line = sign ∷ (decimal line.number ++ (codes ": " ++ (line.bytes ++ 10 ∷ [])))
+abbrev pub signed_line : ℕ → Line → List ℕ
+signed_line sign line = sign ∷ (decimal line.number ++ (codes ": " ++ (line.bytes ++ 10 ∷ [])))
 
 -- a line that the text has and its layout has not
 abbrev pub removed_line : Line → List ℕ
-removed_line line = shown_line (byte "-") line
+removed_line line = signed_line (byte "-") line
 
 -- a line that the layout has and the text has not
 abbrev pub added_line : Line → List ℕ
-added_line line = shown_line (byte "+") line
+added_line line = signed_line (byte "+") line
 
 -- how many of the first lines of the layout stand before a line of the text
 abbrev pub count_ahead : Line → List Line → ℕ
@@ -45,4 +45,4 @@ differing (line ∷ lines) laid =
 
 -- what differs between the lines of a text and those of its layout
 abbrev pub differing_lines : List ℕ → List ℕ → List ℕ
-differing_lines text laid = differing (lines_of text) (lines_of laid)
+differing_lines text laid = differing (numbered_lines text) (numbered_lines laid)

@@ -4,8 +4,8 @@ use Rattle.twe_lexer.specs.Lexeme.{is_blank, is_line_end}
 use Rattle.twe_format.specs.declared.lines.Line.{Line}
 
 -- a byte that is not white space
-abbrev pub is_solid : ℕ → Bool
-is_solid code = not (is_blank code)
+abbrev pub is_ink : ℕ → Bool
+is_ink code = not (is_blank code)
 
 -- the first line of a text, of which nothing is read
 abbrev pub first_line : Line
@@ -13,7 +13,7 @@ first_line = record { number = 1; before = 0; bytes = []; ended = false }
 
 -- the line after this one, of which nothing is read
 abbrev pub next_line : Line → Line
-next_line line = record { number = line.number + 1; before = line.before + count_by is_solid line.bytes; bytes = []; ended = false }
+next_line line = record { number = line.number + 1; before = line.before + count_by is_ink line.bytes; bytes = []; ended = false }
 
 -- the line with one more byte
 abbrev pub longer_line : Line → ℕ → Line
@@ -30,5 +30,5 @@ lines_from line (code ∷ text) =
     if is_line_end code then (ended_line line ∷ lines_from (next_line line) text) else lines_from (longer_line line code) text
 
 -- the lines of a text
-abbrev pub lines_of : List ℕ → List Line
-lines_of text = lines_from first_line text
+abbrev pub numbered_lines : List ℕ → List Line
+numbered_lines text = lines_from first_line text

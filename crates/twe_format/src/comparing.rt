@@ -3,9 +3,9 @@ ghost use Rattle.std.specs.Prelude.{◌≡◌, ◌≤◌, ◌++◌, ◌∷◌, L
 ghost use Rattle.std.specs.List.{flat_map};
 ghost use Rattle.twe_base.specs.Language.{max_text_bytes};
 ghost use Rattle.twe_format.specs.declared.lines.Line.{Line as AnyLine};
-ghost use Rattle.twe_format.specs.Differences.{is_same_line, shown_line, added_line, count_ahead, stands_first, differing, differing_lines};
+ghost use Rattle.twe_format.specs.Differences.{is_same_line, signed_line, added_line, count_ahead, stands_first, differing, differing_lines};
 
-use crate::lines::{Line, lines_of};
+use crate::lines::{Line, numbered_lines};
 use itoa::Buffer;
 use std::alloc::Global;
 use twe_base::{Bytes, Memory};
@@ -24,7 +24,7 @@ fn is_same_line(line: &Line, other: &Line) -> bool
 
 /// Appends a line with its number behind this sign.
 fn push_line(text: &mut Bytes, sign: u8, line: &Line) -> Result<(), Memory>
-    ensures { OnOk result (text.new ≡ text.old ++ shown_line sign line.now) }
+    ensures { OnOk result (text.new ≡ text.old ++ signed_line sign line.now) }
 {
     text.push(sign)?;
     text.push_all(Buffer::new().format(line.number as u64).as_bytes())?;
@@ -99,7 +99,7 @@ pub(crate) fn differing_lines(alloc: Global, text: &[u8], laid: &[u8]) -> Result
     requires laid { length laid.now ≤ max_text_bytes }
     ensures { IfOk result (λ lines. lines ≡ differing_lines text.now laid.now) }
 {
-    let lines = lines_of(alloc, text)?;
-    let laid_lines = lines_of(alloc, laid)?;
+    let lines = numbered_lines(alloc, text)?;
+    let laid_lines = numbered_lines(alloc, laid)?;
     differing(alloc, lines.as_slice(), laid_lines.as_slice())
 }

@@ -1,7 +1,7 @@
 //! The lines of a text.
 ghost use Rattle.std.specs.Prelude.{◌≡◌, ◌≤◌, ◌+◌, length, count_by, IfOk};
 ghost use Rattle.twe_base.specs.Language.{max_text_bytes};
-ghost use Rattle.twe_format.specs.Lines.{is_solid, first_line, next_line, lines_of};
+ghost use Rattle.twe_format.specs.Lines.{is_ink, first_line, next_line, numbered_lines};
 
 use std::alloc::Global;
 use twe_base::{Bytes, List, Memory};
@@ -20,17 +20,17 @@ pub struct Line {
 }
 
 /// Whether the byte is not white space.
-fn is_solid(byte: u8) -> bool
-    ensures { result ≡ is_solid byte }
+fn is_ink(byte: u8) -> bool
+    ensures { result ≡ is_ink byte }
 {
     !(byte == b'\t' || byte == b'\n' || byte == b'\r' || byte == b' ')
 }
 
 /// How many of the bytes are not white space.
-fn count_solid(bytes: &[u8]) -> usize
-    ensures { result ≡ count_by is_solid bytes.now }
+fn count_ink(bytes: &[u8]) -> usize
+    ensures { result ≡ count_by is_ink bytes.now }
 {
-    bytes.iter().filter(|byte| is_solid(**byte)).count()
+    bytes.iter().filter(|byte| is_ink(**byte)).count()
 }
 
 impl Line {
@@ -54,7 +54,7 @@ impl Line {
     {
         Line {
             number: self.number + 1,
-            before: self.before + count_solid(self.bytes.as_slice()),
+            before: self.before + count_ink(self.bytes.as_slice()),
             bytes: Bytes::new(alloc),
             ended: false,
         }
@@ -62,9 +62,9 @@ impl Line {
 }
 
 /// The lines of a text. It takes time and memory linear in the length of the text.
-pub(crate) fn lines_of(alloc: Global, text: &[u8]) -> Result<List<Line>, Memory>
+pub(crate) fn numbered_lines(alloc: Global, text: &[u8]) -> Result<List<Line>, Memory>
     requires { length text.now ≤ max_text_bytes }
-    ensures { IfOk result (λ lines. lines ≡ lines_of text.now) }
+    ensures { IfOk result (λ lines. lines ≡ numbered_lines text.now) }
 {
     let mut lines: List<Line> = List::new(alloc);
     let mut line = Line::first(alloc);

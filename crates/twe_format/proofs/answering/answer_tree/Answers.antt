@@ -1,8 +1,7 @@
-use Rattle.std.proofs.Common.{◌≡◌, ◌<◌, ◌≤◌, ℕ, List, length, sym, ap, ◌∙◌, subst, arith}
+use Rattle.std.proofs.Common.{◌<◌, ◌≤◌, length, sym, ap, ◌∙◌, subst, arith}
 use Rattle.std.specs.Prelude.{IfOk, Result, Ok, Err}
-use Rattle.twe_io.specs.declared.status.Status.TheVariants.{Done, TooLong}
-use Rattle.twe_io.specs.declared.answer.Answer.{Answer}
-use Rattle.twe_io.specs.Answers.{on_err, on_out}
+use Rattle.twe_io.specs.declared.status.Status.TheVariants.{TooLong}
+use Rattle.twe_io.specs.Answers.{on_err}
 use Rattle.twe_format.specs.Answers.{FormatDue, check_answer}
 use Rattle.twe_format.proofs.answering.answer_tree.Goals as goal
 
