@@ -50,6 +50,11 @@ _twe_advise() {
   if ((COMP_CWORD == 1)) && [[ --json == "${COMP_WORDS[1]}"* ]]; then COMPREPLY=(--json); fi
 }
 
+_twe_format() {
+  COMPREPLY=()
+  if ((COMP_CWORD == 1)) && [[ --check == "${COMP_WORDS[1]}"* ]]; then COMPREPLY=(--check); fi
+}
+
 _twe_draw() {
   local word
   COMPREPLY=()
@@ -115,6 +120,7 @@ complete -F _twe twe
 complete -o filenames -F _tw tw
 complete -F _twe_batch twe_batch
 complete -F _twe_advise twe_advise
+complete -F _twe_format twe_format
 complete -F _twe_draw twe_draw
 complete -F _twe_annotate twe_annotate
 complete -F _twe_explain twe_explain

@@ -50,6 +50,8 @@ complete -c twe_explain -n 'not __fish_contains_opt all' -l all -d 'each rule on
 complete -c twe_explain -n 'not __fish_contains_opt run' -l run -d 'run the text, and say why the run goes no further'
 complete -c twe_explain -n 'not __fish_contains_opt fuel' -l fuel -x -d 'how much fuel each task has'
 complete -c twe_explain -n 'not __fish_contains_opt tasks' -l tasks -x -d 'how many tasks may be made'
+complete -c twe_format -f
+complete -c twe_format -n __fish_use_subcommand -a --check -d 'the lines that are not in the layout'
 complete -c twe_infer -f
 complete -c twe_opt -f
 complete -c twe_profile -f
