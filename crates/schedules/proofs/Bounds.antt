@@ -9,7 +9,7 @@ use Rattle.std.proofs.lemmas.Nat.{mul-le}
 use Rattle.std.proofs.lemmas.Bool.{and_from, and_left, and_right, cases_lt, le-leb, lt-leb, lt-ltb, le-ltb}
 use Rattle.std.proofs.lemmas.List.Sums.{sum_by-cons, sum_by_push}
 use Rattle.schedules.specs.Chains.{ComesInOrder, LeadsForward, SpanIsAtMost, SpanIsReached}
-use Rattle.schedules.specs.Schedules.{IsGreedy, IsSchedule, least_time, length_of, running, runs_in}
+use Rattle.schedules.specs.Schedules.{IsGreedy, IsSchedule, Waits, least_time, length_of, running, runs_in}
 use Rattle.schedules.specs.Sums.{sum_below}
 
 -- the step counts as one if the entry runs in it
@@ -48,14 +48,28 @@ pub sum_of_both : (f g : ℕ → ℕ) (n : ℕ) → sum_below (λ i. f i + g i) 
 sum_of_both f g zero = refl
 sum_of_both f g (suc n) = let before = sum_of_both f g n in omega (arith, before)
 
-sums_swap : (f : ℕ → ℕ → ℕ) (n m : ℕ) → sum_below (λ j. sum_below (λ i. f i j) n) m ≡ sum_below (λ i. sum_below (λ j. f i j) m) n
+pub sums_swap : (f : ℕ → ℕ → ℕ) (n m : ℕ) → sum_below (λ j. sum_below (λ i. f i j) n) m ≡ sum_below (λ i. sum_below (λ j. f i j) m) n
 sums_swap f zero m = sum_of_none m
 sums_swap f (suc n) m =
     sum_of_both (λ j. sum_below (λ i. f i j) n) (λ j. f n j) m ∙ ap (λ (x : ℕ). x + sum_below (λ j. f n j) m) (sums_swap f n m)
 
+pub sum_within_below : (f g : ℕ → ℕ) (n : ℕ) → ((i : ℕ) → i < n → f i ≤ g i) → sum_below f n ≤ sum_below g n
+sum_within_below f g zero each = omega arith
+sum_within_below f g (suc n) each =
+    let before = sum_within_below f g n (λ i below. each i (omega (arith, below))) in
+    let this = each n (omega arith) in
+    omega (arith, before, this)
+
 pub sum_within : (f g : ℕ → ℕ) (n : ℕ) → ((i : ℕ) → f i ≤ g i) → sum_below f n ≤ sum_below g n
-sum_within f g zero each = omega arith
-sum_within f g (suc n) each = let before = sum_within f g n each in let this = each n in omega (arith, before, this)
+sum_within f g n each = sum_within_below f g n (λ i below. each i)
+
+-- a sum is no less than each of its parts
+pub part_within : (f : ℕ → ℕ) (n i : ℕ) → i < n → f i ≤ sum_below f n
+part_within f zero i below = absurd (omega (arith, below))
+part_within f (suc n) i below = elim (cases_lt i n) [
+  | inl lower ↦ (let before = part_within f n i lower in omega (arith, before))
+  | inr last ↦ (let same : i ≡ n = omega (arith, last, below) in let value = ap f same in omega (arith, value))
+]
 
 pub sum_of_same : (k n : ℕ) → sum_below (λ i. k) n ≡ k * n
 sum_of_same k zero = omega arith
@@ -132,6 +146,28 @@ module _ (Leads : ℕ → ℕ → Type 0) (weight : ℕ → ℕ) (count processo
       let share = quotient_least (sum_below weight count) processors (length_of weight start count) some work_within in
       omega (arith, chain, weighs, share)
 
+module _ (Leads : ℕ → ℕ → Type 0) (forward : LeadsForward Leads) (weight : ℕ → ℕ) (count processors : ℕ) (start : ℕ → ℕ) where
+  pub runs_now : (entry step : ℕ) → entry < count → start entry ≤ step → step < start entry + weight entry → 0 < running weight start count step
+  runs_now entry step below here there =
+      let one = in_between (start entry) (weight entry) step here there in
+      let part = part_within (λ e. one_if (runs_in (start e) (weight e) step)) count entry below in
+      omega (arith, one, part)
+
+  -- at a step before an entry has ended some entry runs, if each that has not started waits or all processors are busy
+  pub some_runs : (step : ℕ) → 0 < processors
+      → ((entry : ℕ) → entry < count → step < start entry → Waits Leads weight start entry step ⊎ (running weight start count step ≡ processors))
+      → (limit entry : ℕ) → entry < limit → entry < count → step < start entry + weight entry → 0 < running weight start count step
+  some_runs step some busy zero entry lower below there = absurd (omega (arith, lower))
+  some_runs step some busy (suc limit) entry lower below there = elim (cases_lt step (start entry)) [
+    | inl early ↦ elim (busy entry below early) [
+      | inl waits ↦ (
+          let before = forward waits.earlier entry waits.leads in
+          some_runs step some busy limit waits.earlier (omega (arith, lower, before)) (omega (arith, below, before)) waits.runs)
+      | inr full ↦ omega (arith, full, some)
+    ]
+    | inr here ↦ runs_now entry step below here there
+  ]
+
 module _ (Leads : ℕ → ℕ → Type 0) (forward : LeadsForward Leads) (weight : ℕ → ℕ) (count processors : ℕ) (start : ℕ → ℕ) (is : IsGreedy Leads weight count processors start) where
   -- a step counts as idle if not all processors are busy in it
   abbrev idle : ℕ → ℕ
@@ -198,11 +234,19 @@ module _ (Leads : ℕ → ℕ → Type 0) (forward : LeadsForward Leads) (weight
     | inr latest ↦ (n, omega arith, omega (arith, latest))
   ]
 
-  -- in each step all processors are busy, or it is idle
-  shared : (step : ℕ) → processors ≤ running weight start count step + processors * idle step
-  shared step = elim (busy_or_idle step) [
+  -- in each step before the end all processors are busy, or it is idle and one is busy
+  shared : (step : ℕ) → step < length_of weight start count → processors ≤ running weight start count step + (processors - 1) * idle step
+  shared step before = elim (busy_or_idle step) [
     | inl full ↦ (let same = full.0 in omega (arith, same))
-    | inr some ↦ (let one = ap (λ (x : ℕ). processors * x) some.1 in omega (arith, one))
+    | inr some ↦ (
+        let last = last_of count (omega (arith, before)) in
+        let end = last.2 in
+        let less = some.0 in
+        let one = ap (λ (x : ℕ). (processors - 1) * x) some.1 in
+        let runs =
+        some_runs Leads forward weight count processors start step (omega (arith, less)) (λ entry below early. is.busy entry step below early)
+        (suc last.0) last.0 (omega arith) last.1 (omega (arith, before, end)) in
+        omega (arith, one, runs))
   ]
 
   module _ (span : ℕ) (most : SpanIsAtMost Leads weight count span) where
@@ -213,18 +257,20 @@ module _ (Leads : ℕ → ℕ → Type 0) (forward : LeadsForward Leads) (weight
         let heaviest = most (so.front ++ entry ∷ []) so.chain in
         omega (arith, covers, heaviest, same)
 
-    short_by : (time : ℕ) → length_of weight start count ≡ time → (time ≡ 0) ⊎ (0 < time) → processors * time ≤ sum_below weight count + processors * span
+    short_by : (time : ℕ) → length_of weight start count ≡ time → (time ≡ 0) ⊎ (0 < time) → processors * time ≤ sum_below weight count + (processors - 1) * span
     short_by time same (inl none) = let no = ap (λ (x : ℕ). processors * x) none in omega (arith, no)
     short_by time same (inr some) =
         let last = last_of count (omega (arith, same, some)) in
         let idle_most = idle_within last.0 last.1 time (last.2 ∙ same) in
-        let product = mul-le-mul_left processors idle_most in
+        let product = mul-le-mul_left (processors - 1) idle_most in
         let all = work_is_run weight start count time (omega (arith, same)) in
-        let each = sum_within (λ step. processors) (λ step. running weight start count step + processors * idle step) time shared in
+        let each =
+        sum_within_below (λ step. processors) (λ step. running weight start count step + (processors - 1) * idle step) time
+        (λ step before. shared step (omega (arith, before, same))) in
         let whole = sum_of_same processors time in
-        let parts = sum_of_both (λ step. running weight start count step) (λ step. processors * idle step) time in
-        let idles = sum_of_times idle processors time in
+        let parts = sum_of_both (λ step. running weight start count step) (λ step. (processors - 1) * idle step) time in
+        let idles = sum_of_times idle (processors - 1) time in
         omega (arith, product, all, each, whole, parts, idles)
 
-    pub short : processors * length_of weight start count ≤ sum_below weight count + processors * span
+    pub short : processors * length_of weight start count ≤ sum_below weight count + (processors - 1) * span
     short = short_by (length_of weight start count) refl (zero_or_more (length_of weight start count))

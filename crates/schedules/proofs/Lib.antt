@@ -1,4 +1,5 @@
 pub mod Bounds
+pub mod GreedyStarts
 pub mod OneMore
 pub mod Paced
 pub mod PacedTimes

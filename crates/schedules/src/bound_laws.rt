@@ -1,5 +1,5 @@
 //! The laws of schedules.
-ghost use Rattle.std.specs.Prelude.{◌≡◌, ◌≤◌, ◌<◌, ◌+◌, ◌*◌, ℕ, List};
+ghost use Rattle.std.specs.Prelude.{◌≡◌, ◌≤◌, ◌<◌, ◌+◌, ◌-◌, ◌*◌, ℕ, List};
 ghost use Rattle.schedules.specs.Chains.{LeadsForward, SpanIsAtMost, SpanIsReached};
 ghost use Rattle.schedules.specs.Graphs.{LeadsIn, entry_count, weight_in};
 ghost use Rattle.schedules.specs.Schedules.{IsGreedy, IsSchedule, least_time, length_of};
@@ -16,14 +16,21 @@ pub fn no_schedule_is_shorter()
         ≤ length_of (weight_in graph) start (entry_count graph) }
 {}
 
-/// A greedy schedule takes at most the work shared out to all processors, and the span. It is stated without a division: the
-/// time of all processors together is at most the work and one span for each processor.
+/// A greedy schedule takes at most the work shared out to all processors, and the span but for one processor's share of it:
+/// Graham's bound. It is stated without a division: the time of all processors together is at most the work, and one span for
+/// each processor but one. So one processor takes no more than the work.
 pub fn a_greedy_schedule_is_short()
     ensures { (graph : AnyGraph) (processors span : ℕ) (start : ℕ → ℕ) → LeadsForward (LeadsIn graph)
         → IsGreedy (LeadsIn graph) (weight_in graph) (entry_count graph) processors start
         → SpanIsAtMost (LeadsIn graph) (weight_in graph) (entry_count graph) span
         → processors * length_of (weight_in graph) start (entry_count graph)
-        ≤ sum_below (weight_in graph) (entry_count graph) + processors * span }
+        ≤ sum_below (weight_in graph) (entry_count graph) + (processors - 1) * span }
+{}
+
+/// There is a greedy schedule of entries, if what leads to another comes before it, and there is a processor.
+pub fn a_greedy_schedule_exists()
+    ensures { (graph : AnyGraph) (processors : ℕ) → 0 < processors → LeadsForward (LeadsIn graph)
+        → (start : ℕ → ℕ) × IsGreedy (LeadsIn graph) (weight_in graph) (entry_count graph) processors start }
 {}
 
 /// The paced timetable of entries is one: what leads to another ends before that starts, and no step has more entries than

@@ -8,7 +8,8 @@ mod pacing;
 mod times;
 
 pub use bound_laws::{
-    a_greedy_schedule_is_short, a_paced_timetable_is_short, no_schedule_is_shorter,
+    a_greedy_schedule_exists, a_greedy_schedule_is_short, a_paced_timetable_is_short,
+    no_schedule_is_shorter,
 };
 pub use graph::Graph;
 pub use pacing::{PacedJob, paced_time};
