@@ -1,5 +1,5 @@
 -- The bounds on schedules, for elements of a list with their heaviest chain.
-use Rattle.std.proofs.Common.{◌≡◌, ◌<◌, ◌≤◌, ◌+◌, ◌*◌, ℕ, zero, suc, List, [], ◌∷◌, length, refl, sym, ap, ◌∙◌, subst, arith}
+use Rattle.std.proofs.Common.{◌≡◌, ◌<◌, ◌≤◌, ◌+◌, ◌-◌, ◌*◌, ℕ, zero, suc, List, [], ◌∷◌, length, refl, sym, ◌∙◌, subst, arith}
 use Rattle.std.specs.List.{sum_by}
 use Rattle.std.proofs.lemmas.List.Sums.{sum_by-cons}
 use Rattle.span_profile.specs.heaviest_chain.Chains.{IsChain, IsHeaviest, Leads, weight_at}
@@ -42,7 +42,7 @@ module _ {X : Type 0} (LeadsOn : X → X → Type 0) (weight : X → ℕ) (xs : 
       subst (λ (w : ℕ). least_time w span workers ≤ length_of (weight_at weight xs) start (length xs)) work_is
       (not_shorter (Leads LeadsOn xs) (weight_at weight xs) (length xs) workers start schedule span some (chain, in_order (Leads LeadsOn xs) (length xs) chain heaviest.chain_is, heaviest.span_is))
 
-  pub greedy : IsGreedy (Leads LeadsOn xs) (weight_at weight xs) (length xs) workers start → workers * length_of (weight_at weight xs) start (length xs) ≤ work + workers * span
+  pub greedy : IsGreedy (Leads LeadsOn xs) (weight_at weight xs) (length xs) workers start → workers * length_of (weight_at weight xs) start (length xs) ≤ work + (workers - 1) * span
   greedy is =
       let bound = short (Leads LeadsOn xs) (λ i j leads. leads.before) (weight_at weight xs) (length xs) workers start is span
       (λ other in_it. heaviest.heaviest other (is_chain (Leads LeadsOn xs) (length xs) other in_it)) in

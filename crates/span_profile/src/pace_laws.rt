@@ -1,5 +1,5 @@
 //! How fast the entries of a run can be on several workers.
-ghost use Rattle.std.specs.Prelude.{◌≡◌, ◌<◌, ◌≤◌, ◌+◌, ◌*◌, ℕ, List};
+ghost use Rattle.std.specs.Prelude.{◌≡◌, ◌<◌, ◌≤◌, ◌+◌, ◌-◌, ◌*◌, ℕ, List};
 ghost use Rattle.seg_journal.specs.declared.moves.Move.{Move};
 ghost use Rattle.twe_base.specs.Limits.{Bounds};
 ghost use Rattle.twe_program.specs.Program.{Program};
@@ -18,11 +18,11 @@ pub fn no_workers_are_faster()
 {}
 
 /// A schedule of the entries of a run that keeps their order, and in which no worker is idle while an entry could run, takes
-/// at most the work shared out to the workers, and the span.
+/// at most the work shared out to the workers, and the span but for one worker's share of it.
 pub fn greedy_workers_are_fast()
     ensures { (p : Program) (lim : Bounds) (moves : List Move) (work span workers : ℕ) (chain : List ℕ) (start : ℕ → ℕ)
         → (profile : IsProfile p lim moves work span chain) → IsGreedyRun p lim (counted profile.journal) workers start
-        → workers * run_time p lim (counted profile.journal) start ≤ work + workers * span }
+        → workers * run_time p lim (counted profile.journal) start ≤ work + (workers - 1) * span }
 {}
 
 /// The paced timetable of the entries of a run keeps their order, takes no less than the least time, and at most the work
