@@ -9,8 +9,8 @@ use twe_io::{Sink, Source, Status};
 use twe_report::run_text_program;
 
 /// Reads the text of a program from the source, and after the first line that is exactly `%%` the text of a journal, and writes
-/// a picture of the run of that journal, by time or with a column for each entry, or its trace. Without such a line the journal
-/// is empty. A journal may be unfinished or stuck, or end with a fault.
+/// a picture of the run of that journal, by time or with a column for each entry, or its trace. Without such a line the answer
+/// is that there is no journal. A journal may be unfinished or stuck, or end with a fault.
 ///
 /// `Answers` says what each status means and what is written with it. If there are words other than `order` or `trace` alone,
 /// the answer is the usage line, and nothing is read from the source. After `Memory` nothing was written.

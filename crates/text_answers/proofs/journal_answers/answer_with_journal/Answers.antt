@@ -1,5 +1,5 @@
 use Rattle.std.proofs.Common.{ℕ, List, sym, ap, ◌∙◌, subst}
-use Rattle.twe_frontend.specs.Accepted.{IsRefusal}
+use Rattle.twe_frontend.specs.Accepted.{Accepted, IsRefusal}
 use Rattle.twe_frontend.specs.Reads.{HasCause}
 use Rattle.twe_frontend.specs.declared.read.FrontFail.{FrontFail}
 use Rattle.twe_frontend.specs.declared.refusal.Refusal.{Refusal}
@@ -7,14 +7,12 @@ use Rattle.twe_report.specs.Texts.{refusal_text}
 use Rattle.twe_io.specs.declared.status.Status.TheVariants.{Refused}
 use Rattle.twe_io.specs.Answers.{on_err}
 use Rattle.text_answers.specs.Due.{JournalDue}
-use Rattle.text_answers.proofs.Causes.{due_accepted}
 use Rattle.text_answers.proofs.journal_answers.answer_with_journal.Goals as goal
 
 -- the program is accepted
-pub returns-in-Ok : goal.returns-in-Ok
-returns-in-Ok g c =
-    due_accepted (g.P.JournalProgram.gives c.args.program.now) c.args.input.now c.cut_input.result.0.now c.cut_input.result.1.now c.in-Ok.p c.answer_journal.result c.cut_input.ensures.program
-    c.cut_input.ensures.journal c.in-Ok.ensures.accepted c.answer_journal.ensures
+pub answer_accepted-requires-clause-accepted : goal.answer_accepted-requires-clause-accepted
+answer_accepted-requires-clause-accepted g c =
+    subst (λ (text : List ℕ). Accepted text c.in-Ok.p) c.cut_input.ensures.program c.in-Ok.ensures.accepted
 
 -- or it is refused
 pub returns-in_ok-refusal_text-in-Err-Refused : goal.returns-in_ok-refusal_text-in-Err-Refused
