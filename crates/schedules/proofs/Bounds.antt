@@ -1,5 +1,5 @@
 -- How long schedules take: no less than a chain, no less than the work shared out, and if greedy no more than both.
-use Rattle.std.proofs.Common.{◌≡◌, ◌<◌, ◌≤◌, ◌+◌, ◌-◌, ◌*◌, ◌⊎◌, inl, inr, ℕ, zero, suc, Bool, List, [], ◌∷◌, ◌++◌, refl, ap, ◌∙◌, arith, min}
+use Rattle.std.proofs.Common.{◌≡◌, ◌<◌, ◌≤◌, ◌+◌, ◌-◌, ◌*◌, ◌⊎◌, inl, inr, ℕ, zero, suc, Bool, true, false, List, [], ◌∷◌, ◌++◌, refl, ap, ◌∙◌, arith, min}
 use Rattle.std.specs.Prelude.{nat_le, nat_lt, if◌then◌else◌}
 use Rattle.std.specs.List.{sum_by}
 use Rattle.std.proofs.Math.Nat.{mul-le-mul_left}
@@ -25,6 +25,11 @@ after_end start weight step late = ap one_if (and_right (nat_le start step) (nat
 pub in_between : (start weight step : ℕ) → start ≤ step → step < start + weight → one_if (runs_in start weight step) ≡ 1
 in_between start weight step here there =
     ap one_if (and_from (nat_le start step) (nat_lt step (start + weight)) (le-leb start step here) (lt-ltb step (start + weight) there))
+
+-- whether an entry runs counts as at most one
+pub at_most_one : (runs : Bool) → one_if runs ≤ 1
+at_most_one true = omega arith
+at_most_one false = omega arith
 
 -- in how many of the first steps an entry runs
 pub steps_run : (start weight time : ℕ) → sum_below (λ step. one_if (runs_in start weight step)) time ≡ min (time - start) weight

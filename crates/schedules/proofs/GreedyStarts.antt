@@ -1,13 +1,14 @@
 -- A greedy schedule is found step by step, and at each step entry by entry: an entry starts if it waits for none and a processor
 -- is idle. Until then its start is late: after the time in which all could run one after another.
-use Rattle.std.proofs.Common.{◌≡◌, ◌<◌, ◌≤◌, ◌+◌, ◌⊎◌, inl, inr, ℕ, zero, suc, Bool, true, false, List, [], ◌∷◌, refl, ap, ◌∙◌, subst, arith}
+use Rattle.std.proofs.Common.{◌≡◌, ◌<◌, ◌≤◌, ◌+◌, ◌⊎◌, inl, inr, ℕ, zero, suc, Bool, List, [], ◌∷◌, refl, ap, ◌∙◌, subst, arith}
 use Rattle.std.specs.Prelude.{◌==◌, if◌then◌else◌}
 use Rattle.std.specs.List.{Contains}
 use Rattle.std.proofs.lemmas.Bool.{cases_eq, cases_lt, eq-eqb, ne_eqb}
 use Rattle.schedules.specs.Chains.{LeadsForward}
 use Rattle.schedules.specs.Schedules.{IsGreedy, Waits, running, runs_in}
 use Rattle.schedules.specs.Sums.{sum_below}
-use Rattle.schedules.proofs.Bounds.{after_end, before_start, in_between, one_if, some_runs, steps_run, sum_of_same, sum_within_below, sums_swap}
+use Rattle.schedules.proofs.InTurn.{in_turn_on}
+use Rattle.schedules.proofs.Bounds.{after_end, at_most_one, before_start, in_between, one_if, some_runs, steps_run, sum_of_same, sum_within_below, sums_swap}
 
 none_of : (first : ℕ) (others : List ℕ) (number : ℕ) → (first ≡ number → ⊥) → (Contains others number → ⊥) → Contains (first ∷ others) number → ⊥
 none_of first others number other none (zero, below, same) = other same
@@ -29,11 +30,6 @@ lower_than a b below other = elim (cases_lt a b) [
   | inl lower ↦ lower
   | inr least ↦ absurd (other (omega (arith, least, below)))
 ]
-
--- whether an entry runs counts as at most one
-at_most_one : (runs : Bool) → one_if runs ≤ 1
-at_most_one true = omega arith
-at_most_one false = omega arith
 
 same_sums : (f g : ℕ → ℕ) (n : ℕ) → ((i : ℕ) → i < n → f i ≡ g i) → sum_below f n ≡ sum_below g n
 same_sums f g zero each = refl
@@ -110,11 +106,7 @@ module _ (Leads : ℕ → ℕ → Type 0) (leads_or_not : (entry next : ℕ) →
   late entry = horizon + sum_below weight entry
 
   late_on : (n entry : ℕ) → entry < n → late entry + weight entry ≤ late n
-  late_on zero entry below = absurd (omega (arith, below))
-  late_on (suc n) entry below = elim (cases_lt entry n) [
-    | inl lower ↦ (let before = late_on n entry lower in omega (arith, before))
-    | inr last ↦ (let same : entry ≡ n = omega (arith, last, below) in let value = ap weight same in let sum = ap (λ (x : ℕ). sum_below weight x) same in omega (arith, value, sum))
-  ]
+  late_on n entry below = let before = in_turn_on weight n entry below in omega (arith, before)
 
   -- All steps before `now` have been gone through, and at that step all entries before `next`: what could start has.
   record IsBegun (start : ℕ → ℕ) (now next : ℕ) : Type 0 where

@@ -27,6 +27,13 @@ pub fn a_greedy_schedule_is_short()
         ≤ sum_below (weight_in graph) (entry_count graph) + (processors - 1) * span }
 {}
 
+/// Entries one after another are a schedule, if what leads to another comes before it, and there is a processor. It takes the work.
+pub fn one_after_another_takes_the_work()
+    ensures { (graph : AnyGraph) (processors : ℕ) → 0 < processors → LeadsForward (LeadsIn graph) → (start : ℕ → ℕ)
+        × IsSchedule (LeadsIn graph) (weight_in graph) (entry_count graph) processors start
+        × (length_of (weight_in graph) start (entry_count graph) ≡ sum_below (weight_in graph) (entry_count graph)) }
+{}
+
 /// There is a greedy schedule of entries, if what leads to another comes before it, and there is a processor.
 pub fn a_greedy_schedule_exists()
     ensures { (graph : AnyGraph) (processors : ℕ) → 0 < processors → LeadsForward (LeadsIn graph)

@@ -9,7 +9,7 @@ mod times;
 
 pub use bound_laws::{
     a_greedy_schedule_exists, a_greedy_schedule_is_short, a_paced_timetable_is_short,
-    no_schedule_is_shorter,
+    no_schedule_is_shorter, one_after_another_takes_the_work,
 };
 pub use graph::Graph;
 pub use pacing::{PacedJob, paced_time};
