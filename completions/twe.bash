@@ -46,8 +46,12 @@ _twe_annotate() {
 }
 
 _twe_advise() {
+  local word
   COMPREPLY=()
-  if ((COMP_CWORD == 1)) && [[ --json == "${COMP_WORDS[1]}"* ]]; then COMPREPLY=(--json); fi
+  ((COMP_CWORD == 1)) || return
+  for word in --json --workers; do
+    [[ $word != "${COMP_WORDS[1]}"* ]] || COMPREPLY+=("$word")
+  done
 }
 
 _twe_format() {

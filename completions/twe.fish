@@ -31,6 +31,7 @@ complete -c twe -n '__fish_seen_subcommand_from run; and not __fish_contains_opt
 
 complete -c twe_advise -f
 complete -c twe_advise -n __fish_use_subcommand -a --json -d 'write JSON in place of tables'
+complete -c twe_advise -l workers -x -d 'write a row for so many workers, 1 to 64'
 complete -c twe_annotate -f
 complete -c twe_annotate -n __fish_use_subcommand -a matrix -d 'a line for each two tasks'
 complete -c twe_annotate -n __fish_use_subcommand -a write -d 'the text with the least summaries'

@@ -9,7 +9,7 @@ use Rattle.std.proofs.lemmas.List.Sums.{sum_by-cons}
 use Rattle.schedules.specs.Timetables.{ArePaced, IsPacedTime, Slot, StartsNext, job_at, job_of, jobs_below, time_of}
 use Rattle.schedules.specs.declared.pacing.PacedJob.{PacedJob}
 use Rattle.schedules.proofs.Paced.{contains_cases, contains_first, contains_none}
-use Rattle.twe_advise.specs.Paces.{ArePaces}
+use Rattle.twe_advise.specs.Paces.{ArePaces, IsPace}
 use Rattle.twe_advise.specs.declared.paces.PacedTime.{PacedTime}
 
 -- the first job comes no later than the second
@@ -155,22 +155,28 @@ module _ (starts ends : List ℕ) (processors : ℕ) where
       a.time_is ∙ (ap time_of (one_slots a.slots b.slots a.paced b.paced jobs others alike) ∙ sym b.time_is)
 
 -- so the table of times is one
-module _ (starts ends : List ℕ) where
-  abbrev IsPace : PacedTime → Type 0
-  IsPace pace = IsPacedTime starts ends pace.workers pace.time
+module _ (starts ends held_starts held_ends : List ℕ) where
+  abbrev Is : PacedTime → Type 0
+  Is = IsPace starts ends held_starts held_ends
 
-  same_paces : (paces others : List PacedTime) → map (λ (pace : PacedTime). pace.workers) paces ≡ map (λ (pace : PacedTime). pace.workers) others → All IsPace paces → All IsPace others → paces ≡ others
+  one_pace : (x y : PacedTime) → x.workers ≡ y.workers → Is x → Is y → x ≡ y
+  one_pace x y workers a b =
+      let time = one_time starts ends y.workers x.time y.time (subst (λ (n : ℕ). IsPacedTime starts ends n x.time) workers a.paced) b.paced in
+      let held = one_time held_starts held_ends y.workers x.held y.held (subst (λ (n : ℕ). IsPacedTime held_starts held_ends n x.held) workers a.held) b.held in
+      λ i. record { workers = workers i; time = time i; held = held i }
+
+  same_paces : (paces others : List PacedTime) → map (λ (pace : PacedTime). pace.workers) paces ≡ map (λ (pace : PacedTime). pace.workers) others → All Is paces → All Is others → paces ≡ others
   same_paces [] [] same a b = refl
   same_paces [] (y ∷ ys) same a b = absurd (cc (same))
   same_paces (x ∷ xs) [] same a b = absurd (cc (same))
   same_paces (x ∷ xs) (y ∷ ys) same a b =
       let workers : x.workers ≡ y.workers = cc (same) in
       let rest : map (λ (pace : PacedTime). pace.workers) xs ≡ map (λ (pace : PacedTime). pace.workers) ys = cc (same) in
-      let first = All-contains IsPace (x ∷ xs) x a (contains_first x xs) in
-      let second = All-contains IsPace (y ∷ ys) y b (contains_first y ys) in
-      let time = one_time starts ends y.workers x.time y.time (subst (λ (n : ℕ). IsPacedTime starts ends n x.time) workers first) second in
+      let first = All-contains Is (x ∷ xs) x a (contains_first x xs) in
+      let second = All-contains Is (y ∷ ys) y b (contains_first y ys) in
+      let head = one_pace x y workers first second in
       let others = same_paces xs ys rest (λ k d below. a (suc k) d (omega (arith, below))) (λ k d below. b (suc k) d (omega (arith, below))) in
-      λ i. record { workers = workers i; time = time i } ∷ others i
+      λ i. head i ∷ others i
 
-  pub one_paces : (counts : List ℕ) (paces others : List PacedTime) → ArePaces starts ends counts paces → ArePaces starts ends counts others → paces ≡ others
+  pub one_paces : (counts : List ℕ) (paces others : List PacedTime) → ArePaces starts ends held_starts held_ends counts paces → ArePaces starts ends held_starts held_ends counts others → paces ≡ others
   one_paces counts paces others a b = same_paces paces others (a.workers ∙ sym b.workers) a.each b.each

@@ -22,33 +22,35 @@ use Rattle.held_span.specs.HeldSpans.{IsHeldProfile}
 use Rattle.held_span.specs.declared.hold.Hold.{Hold}
 use Rattle.span_profile.specs.Advice.{AreMadeTasks, IsAdvice}
 use Rattle.span_profile.specs.declared.totals.TaskWork.{TaskWork}
-use Rattle.twe_advise.specs.declared.words.Form.{Form}
+use Rattle.twe_advise.specs.declared.words.AdviceWords.{AdviceWords}
 use Rattle.twe_advise.specs.declared.paces.PacedTime.{PacedTime}
 use Rattle.twe_advise.specs.Forms.{advice_text}
 use Rattle.twe_advise.specs.Parameters.{AreDeclarations}
 use Rattle.twe_advise.specs.Paces.{ArePaces, worker_counts}
-use Rattle.twe_advise.specs.Words.{advise_usage_text, form_of}
+use Rattle.twe_advise.specs.Words.{advise_usage_text, asked_advice}
 
--- The answer, in this form, to legal moves of an accepted program under these limits, whose text has these declarations.
-pub data AdviceGiven (form : Form) (items : List Item) (p : Program) (lim : Bounds) (moves : List Move) : Answer → Type 0 where
+-- The answer, as these words ask for it, to legal moves of an accepted program under these limits, whose text has these
+-- declarations.
+pub data AdviceGiven (wanted : AdviceWords) (items : List Item) (p : Program) (lim : Bounds) (moves : List Move) : Answer → Type 0 where
   -- what the run could gain is written, which effects held most, and why the entries of its heaviest chain follow one another
   advised : (work span held : ℕ) (chain : List ℕ) (works : List TaskWork) (steps : List ChainStep) (tasks : List TaskRow)
       (starts ends held_starts held_ends : List ℕ) (holds : List Hold) (pairs : List HeldPair) (paces : List PacedTime)
       → IsAdvice p lim moves work span chain works → HasSteps p lim moves chain steps
-      → AreMadeTasks p lim moves tasks → HasEarliest p lim moves span starts ends → ArePaces starts ends worker_counts paces
+      → AreMadeTasks p lim moves tasks → HasEarliest p lim moves span starts ends
+      → ArePaces starts ends held_starts held_ends (worker_counts wanted.workers) paces
       → IsHeldProfile p lim moves held held_starts held_ends holds → HeldMost tasks holds pairs
-      → AdviceGiven form items p lim moves
-      (on_out Done (advice_text form p items work span held holds pairs paces works tasks starts steps))
+      → AdviceGiven wanted items p lim moves
+      (on_out Done (advice_text wanted.form p items work span held holds pairs paces works tasks starts steps))
 
--- the answer to an input, in this form: to the text of a program, and after the first line that is exactly `%%` the text of a
--- journal
-abbrev pub AdviceDue : Form → List ℕ → Answer → Type 0
-AdviceDue form input answer =
-    (items : List Item) × AreDeclarations (program_part input) items × JournalDue (AdviceGiven form items) input answer
+-- the answer to an input, as these words ask for it: to the text of a program, and after the first line that is exactly `%%`
+-- the text of a journal
+abbrev pub AdviceDue : AdviceWords → List ℕ → Answer → Type 0
+AdviceDue wanted input answer =
+    (items : List Item) × AreDeclarations (program_part input) items × JournalDue (AdviceGiven wanted items) input answer
 
 -- why the program gives an answer, before it writes anything
 abbrev pub AdviceCause : {S : Type 0} → SourceTells S → List (List ℕ) → S → S → Answer → Type 0
-AdviceCause tells words = TextCause form_of advise_usage_text AdviceDue tells words
+AdviceCause tells words = TextCause asked_advice advise_usage_text AdviceDue tells words
 
 -- what a call of the program comes to: an answer that has its cause is written; or memory runs out, and nothing is written
 abbrev pub IsAdvised : {S O E : Type 0} → EndsTell S O E → List (List ℕ) → Ends S O E → Ends S O E → Status → Type 0

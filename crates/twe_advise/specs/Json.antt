@@ -10,6 +10,7 @@ use Rattle.span_profile.specs.declared.totals.TaskWork.{TaskWork}
 use Rattle.held_span.specs.declared.hold.Hold.{Hold}
 use Rattle.machine_state.specs.declared.state.TaskRow.{TaskRow}
 use Rattle.twe_advise.specs.HeldTimes.{held_time}
+use Rattle.twe_advise.specs.Paces.{shown_time, speed_up}
 use Rattle.twe_advise.specs.declared.paces.PacedTime.{PacedTime}
 use Rattle.twe_advise.specs.Texts.{hundredths_text, rows_by, word_number}
 
@@ -23,11 +24,18 @@ json_head work span =
 unfoldable pub json_held : ℕ → ℕ → List ℕ
 json_held span held = word_number (codes ",\"held_span\":") held ++ word_number (codes ",\"held_longer_by\":") (held - span)
 
--- `{"workers":2,"least":6,"paced":6}`
-abbrev pub json_time : ℕ → ℕ → PacedTime → List ℕ
+-- `,"paced_held":8,"speed_up":1.00}`
+abbrev pub json_speed_up : ℕ → ℕ → List ℕ
+json_speed_up work time =
+    word_number (codes ",\"paced_held\":") time
+    ++ (codes ",\"speed_up\":" ++ (hundredths_text (speed_up work time) ++ codes "}"))
+
+-- `{"workers":2,"least":6,"paced":6,"paced_held":8,"speed_up":1.00}`
+unfoldable pub json_time : ℕ → ℕ → PacedTime → List ℕ
 json_time work span pace =
-    (word_number (codes "{\"workers\":") pace.workers ++ word_number (codes ",\"least\":") (least_time work span pace.workers))
-    ++ (word_number (codes ",\"paced\":") pace.time ++ codes "}")
+    ((word_number (codes "{\"workers\":") pace.workers
+    ++ word_number (codes ",\"least\":") (least_time work span pace.workers))
+    ++ word_number (codes ",\"paced\":") (shown_time work pace.time)) ++ json_speed_up work (shown_time work pace.held)
 
 -- the same after a comma
 abbrev pub json_next_time : ℕ → ℕ → PacedTime → List ℕ

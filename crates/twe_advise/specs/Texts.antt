@@ -10,6 +10,7 @@ use Rattle.span_profile.specs.declared.totals.TaskWork.{TaskWork}
 use Rattle.held_span.specs.declared.hold.Hold.{Hold}
 use Rattle.machine_state.specs.declared.state.TaskRow.{TaskRow}
 use Rattle.twe_advise.specs.HeldTimes.{held_time}
+use Rattle.twe_advise.specs.Paces.{shown_time, speed_up}
 use Rattle.twe_advise.specs.declared.paces.PacedTime.{PacedTime}
 
 -- a number at the right of a column of 12 bytes; a longer number takes more
@@ -24,6 +25,11 @@ word_number word number = word ++ decimal number
 abbrev pub hundredths_text : ℕ → List ℕ
 hundredths_text number = decimal (number / 100) ++ (word_number (codes ".") (number / 10 % 10) ++ decimal (number % 10))
 
+-- hundredths at the right of a column of 12 bytes; a longer number takes more
+abbrev pub hundredths_column : ℕ → List ℕ
+hundredths_column number =
+    drop (min (length (decimal (number / 100))) 9) (codes "         ") ++ hundredths_text number
+
 -- `work 8, span 6, parallelism 1.33`
 unfoldable pub head_text : ℕ → ℕ → List ℕ
 head_text work span =
@@ -35,10 +41,16 @@ unfoldable pub held_text : ℕ → ℕ → List ℕ
 held_text span held =
     (word_number (codes "held span ") held ++ word_number (codes ": the order of admissions adds ") (held - span)) ++ codes "\n"
 
--- so many workers, the least time of a schedule with them, and the time of the paced timetable
+-- this time, and the speed-up of this work in it, at the end of a row
+abbrev pub speed_up_end : ℕ → ℕ → List ℕ
+speed_up_end work time = number_column time ++ (hundredths_column (speed_up work time) ++ codes "\n")
+
+-- so many workers, the least time of a schedule with them, the time that is shown of the paced timetable, that of the one with
+-- admissions, and the speed-up with admissions
 abbrev pub time_row : ℕ → ℕ → PacedTime → List ℕ
 time_row work span pace =
-    ((number_column pace.workers ++ number_column (least_time work span pace.workers)) ++ number_column pace.time) ++ codes "\n"
+    ((number_column pace.workers ++ number_column (least_time work span pace.workers))
+    ++ number_column (shown_time work pace.time)) ++ speed_up_end work (shown_time work pace.held)
 
 -- what the tasks of a name took: how many there were, their work, the work of the heaviest, and how long they were held
 abbrev pub task_row : TaskTotal → ℕ → List ℕ → List ℕ
@@ -61,7 +73,7 @@ task_rows works rows holds number decls = rows_by (task_row_of works rows holds)
 
 -- the table of times
 unfoldable pub times_text : ℕ → ℕ → List PacedTime → List ℕ
-times_text work span paces = codes "\n     workers  least time  paced time\n" ++ flat_map (time_row work span) paces
+times_text work span paces = codes "\n     workers  least time  paced time  paced held    speed-up\n" ++ flat_map (time_row work span) paces
 
 -- the table of tasks
 unfoldable pub tasks_text : List TaskWork → List TaskRow → List Hold → List Decl → List ℕ

@@ -8,7 +8,7 @@ ghost use Rattle.twe_advise.specs.Answers.{AdviceGiven};
 ghost use Rattle.twe_advise.specs.inner.Given.{AdvisedBy};
 
 use crate::forms::advice_text;
-use crate::paces::paces_of;
+use crate::paces::{paces_of, worker_counts};
 use crate::request::AdviceRequest;
 use held_span::{HeldPair, HeldProfile, held_pairs, held_profile};
 use machine_state::ReplayFail;
@@ -27,7 +27,7 @@ pub(crate) fn advice_answer(
     lim: Limits,
     moves: &[Move],
 ) -> Result<Answer, ReplayFail>
-    ensures given { IfOk result (AdviceGiven request.now.form request.now.items p.now lim moves.now) }
+    ensures given { IfOk result (AdviceGiven request.now.wanted request.now.items p.now lim moves.now) }
     ensures illegal { (n : ℕ) (why : Why) → IsErrOf result (Illegal n why) → IsFirstIllegal p.now lim moves.now n why }
 {
     let advice = advise(alloc, p, lim, moves)?;
@@ -48,13 +48,22 @@ fn advised_answer(
 ) -> Result<Answer, Memory>
     requires few { CanBeSummed advice.now.works }
     requires both { length advice.now.profile.ends ≡ length advice.now.profile.starts }
-    ensures { IfOk result (AdvisedBy request.now.form request.now.items p.now advice.now held.now pairs.now) }
+    requires with_admissions { length held.now.ends ≡ length held.now.starts }
+    ensures { IfOk result (AdvisedBy request.now.wanted request.now.items p.now advice.now held.now pairs.now) }
 {
-    let starts = advice.profile.starts.as_slice();
-    let ends = advice.profile.ends.as_slice();
     let items = request.items.as_slice();
-    let paces = paces_of(alloc, starts, ends, &[2, 4, 8, 16, 64])?;
+    let counts = worker_counts(alloc, request.wanted.workers)?;
+    let paces = paces_of(alloc, &advice.profile, held, counts.as_slice())?;
     let paces = paces.as_slice();
-    let text = advice_text(alloc, request.form, p, advice, items, held, pairs, paces)?;
+    let text = advice_text(
+        alloc,
+        request.wanted.form,
+        p,
+        advice,
+        items,
+        held,
+        pairs,
+        paces,
+    )?;
     Ok(Answer::on_out(alloc, Status::Done, text))
 }

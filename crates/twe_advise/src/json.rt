@@ -2,12 +2,12 @@
 ghost use Rattle.std.specs.Prelude.{◌≡◌, ◌<◌, ◌++◌, OnOk};
 ghost use Rattle.std.specs.List.{All, flat_map};
 ghost use Rattle.span_profile.specs.Totals.{CanBeSummed};
-ghost use Rattle.twe_advise.specs.Json.{comma_before, json_head, json_held, json_next_time, json_paces, json_tasks, json_time, json_times};
+ghost use Rattle.twe_advise.specs.Json.{comma_before, json_head, json_held, json_next_time, json_paces, json_speed_up, json_tasks, json_time, json_times};
 ghost use Rattle.twe_advise.specs.Json as json;
 ghost use Rattle.twe_advise.specs.Texts.{word_number};
 
 use crate::held_times::held_time;
-use crate::paces::PacedTime;
+use crate::paces::{PacedTime, shown_time, speed_up};
 use crate::text::{push_hundredths, push_number};
 use held_span::Hold;
 use machine_state::TaskRow;
@@ -41,6 +41,16 @@ pub(crate) fn push_json_held(text: &mut Bytes, span: u64, held: u64) -> Result<(
     push_small(text, b",\"held_longer_by\":", held.saturating_sub(span))
 }
 
+/// Appends the time with admissions, and the speed-up of this work in it, at the end of an object.
+fn push_json_speed_up(text: &mut Bytes, work: u64, time: u128) -> Result<(), Memory>
+    ensures { OnOk result (text.new ≡ text.old ++ json_speed_up work time) }
+{
+    push_number(text, b",\"paced_held\":", time)?;
+    text.push_all(b",\"speed_up\":")?;
+    push_hundredths(text, speed_up(work, time))?;
+    text.push_all(b"}")
+}
+
 /// Appends the times with so many workers.
 fn push_json_time(text: &mut Bytes, work: u64, span: u64, pace: PacedTime) -> Result<(), Memory>
     requires { 0 < pace.workers }
@@ -48,8 +58,8 @@ fn push_json_time(text: &mut Bytes, work: u64, span: u64, pace: PacedTime) -> Re
 {
     push_small(text, b"{\"workers\":", pace.workers)?;
     push_small(text, b",\"least\":", least_time(work, span, pace.workers))?;
-    push_number(text, b",\"paced\":", pace.time)?;
-    text.push_all(b"}")
+    push_number(text, b",\"paced\":", shown_time(work, pace.time))?;
+    push_json_speed_up(text, work, shown_time(work, pace.held))
 }
 
 /// Appends a comma, and the times with so many workers.

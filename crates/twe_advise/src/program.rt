@@ -1,11 +1,11 @@
 //! The program, as its words ask for it.
 ghost use Rattle.twe_advise.specs.Answers.{AdviceDue, AdviceGiven};
-ghost use Rattle.twe_advise.specs.Words.{advise_usage_text, form_of};
+ghost use Rattle.twe_advise.specs.Words.{advise_usage_text, asked_advice};
 
 use crate::answering::advice_answer;
 use crate::request::{AdviceRequest, declarations};
 use crate::text::usage_text;
-use crate::words::{Form, form_of};
+use crate::words::{AdviceWords, asked_advice};
 use machine_state::ReplayFail;
 use seg_journal::{Limits, Move};
 use std::alloc::Global;
@@ -16,7 +16,7 @@ use twe_program::Prog;
 use twe_report::TextProgram;
 
 impl JournalProgram for AdviceRequest {
-    ghost gives = { λ request. AdviceGiven request.form request.items };
+    ghost gives = { λ request. AdviceGiven request.wanted request.items };
 
     fn answer_moves(
         &self,
@@ -29,15 +29,15 @@ impl JournalProgram for AdviceRequest {
     }
 }
 
-impl TextProgram for Form {
-    ghost asked = { form_of };
+impl TextProgram for AdviceWords {
+    ghost asked = { asked_advice };
 
     ghost usage = { advise_usage_text };
 
     ghost due = { AdviceDue };
 
     fn of_words(_: Global, words: &[Word]) -> Result<Option<Self>, Memory> {
-        Ok(form_of(words))
+        Ok(asked_advice(words))
     }
 
     fn usage_text(alloc: Global) -> Result<Bytes, Memory> {
@@ -47,7 +47,10 @@ impl TextProgram for Form {
     fn answer_text(&self, alloc: Global, text: &[u8]) -> Result<Answer, Memory> {
         let (program, _) = cut_input(text);
         let items = declarations(alloc, program)?;
-        let request = AdviceRequest { form: *self, items };
+        let request = AdviceRequest {
+            wanted: *self,
+            items,
+        };
         answer_with_journal(alloc, &request, text)
     }
 }

@@ -1,18 +1,18 @@
-//! What is asked of an input: the form of the answer, and the declarations of its text, which have the names of parameters.
+//! What is asked of an input: what the words ask for, and the declarations of its text, which have the names of parameters.
 ghost use Rattle.std.specs.Prelude.{◌≡◌, IfOk};
 ghost use Rattle.twe_advise.specs.Parameters.{AreDeclarations, task_params};
 
-use crate::words::Form;
+use crate::words::AdviceWords;
 use std::alloc::Global;
 use twe_ast::{Ast, Item, Name};
 use twe_base::{List, Memory};
 use twe_frontend::{FrontFail, read_tree};
 
-/// The form in which advice is written, and the declarations of the text.
+/// What the words ask for, and the declarations of the text.
 #[derive(Debug, Drop)]
 pub(crate) struct AdviceRequest {
-    /// The form.
-    pub form: Form,
+    /// What the words ask for.
+    pub wanted: AdviceWords,
     /// The declarations, in the order of the text.
     pub items: List<Item>,
 }

@@ -2,12 +2,12 @@
 ghost use Rattle.std.specs.Prelude.{◌≡◌, ◌<◌, ◌++◌, IfOk, OnOk};
 ghost use Rattle.std.specs.List.{All, flat_map};
 ghost use Rattle.span_profile.specs.Totals.{CanBeSummed};
-ghost use Rattle.twe_advise.specs.Texts.{head_text, held_text, hundredths_text, number_column, task_rows, tasks_text, time_row, times_text, word_number};
+ghost use Rattle.twe_advise.specs.Texts.{head_text, held_text, hundredths_column, hundredths_text, number_column, speed_up_end, task_rows, tasks_text, time_row, times_text, word_number};
 ghost use Rattle.twe_advise.specs.Texts as texts;
 ghost use Rattle.twe_advise.specs.Words.{advise_usage_text};
 
 use crate::held_times::held_time;
-use crate::paces::PacedTime;
+use crate::paces::{PacedTime, shown_time, speed_up};
 use held_span::Hold;
 use itoa::Buffer;
 use machine_state::TaskRow;
@@ -21,7 +21,7 @@ use twe_program::Decl;
 pub(crate) fn usage_text(alloc: Global) -> Result<Bytes, Memory>
     ensures { IfOk result (λ text. text ≡ advise_usage_text) }
 {
-    Bytes::from_slice(alloc, b"usage: twe_advise [--json]\n")
+    Bytes::from_slice(alloc, b"usage: twe_advise [--json] [--workers K]\n")
 }
 
 /// Appends a number at the right of a column.
@@ -51,6 +51,18 @@ pub(crate) fn push_hundredths(text: &mut Bytes, number: u128) -> Result<(), Memo
     text.push_all(Buffer::new().format(number / 100).as_bytes())?;
     push_number(text, b".", number / 10 % 10)?;
     text.push_all(Buffer::new().format(number % 10).as_bytes())
+}
+
+/// Appends hundredths at the right of a column.
+fn push_hundredths_column(text: &mut Bytes, number: u128) -> Result<(), Memory>
+    ensures { OnOk result (text.new ≡ text.old ++ hundredths_column number) }
+{
+    let mut buffer = Buffer::new();
+    let digits = buffer.format(number / 100).as_bytes();
+    let blanks = b"         ";
+    let used = digits.len().min(9);
+    text.push_all(&blanks[used..])?;
+    push_hundredths(text, number)
 }
 
 /// Appends the work, the span and the parallelism.
@@ -84,6 +96,15 @@ pub(crate) fn push_small_column(text: &mut Bytes, number: u64) -> Result<(), Mem
     push_column(text, u128::from(number))
 }
 
+/// Appends this time, and the speed-up of this work in it, at the end of a row.
+fn push_speed_up(text: &mut Bytes, work: u64, time: u128) -> Result<(), Memory>
+    ensures { OnOk result (text.new ≡ text.old ++ speed_up_end work time) }
+{
+    push_column(text, time)?;
+    push_hundredths_column(text, speed_up(work, time))?;
+    text.push_all(b"\n")
+}
+
 /// Appends the row of so many workers.
 fn push_time(text: &mut Bytes, work: u64, span: u64, pace: PacedTime) -> Result<(), Memory>
     requires { 0 < pace.workers }
@@ -91,8 +112,8 @@ fn push_time(text: &mut Bytes, work: u64, span: u64, pace: PacedTime) -> Result<
 {
     push_small_column(text, pace.workers)?;
     push_small_column(text, least_time(work, span, pace.workers))?;
-    push_column(text, pace.time)?;
-    text.push_all(b"\n")
+    push_column(text, shown_time(work, pace.time))?;
+    push_speed_up(text, work, shown_time(work, pace.held))
 }
 
 /// Appends a row for each of these numbers of workers.
@@ -147,7 +168,7 @@ pub(crate) fn push_times_table(
     requires { All (λ pace. 0 < pace.workers) paces.now }
     ensures { OnOk result (text.new ≡ text.old ++ times_text work span paces.now) }
 {
-    text.push_all(b"\n     workers  least time  paced time\n")?;
+    text.push_all(b"\n     workers  least time  paced time  paced held    speed-up\n")?;
     push_times(text, work, span, paces)
 }
 

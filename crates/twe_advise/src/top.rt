@@ -2,7 +2,7 @@
 ghost use Rattle.twe_advise.specs.Answers.{IsAdvised};
 ghost use Rattle.twe_io.specs.Ends.{ends, ends_tell, sink, source};
 
-use crate::words::Form;
+use crate::words::AdviceWords;
 use std::alloc::Global;
 use twe_base::Word;
 use twe_io::{Sink, Source, Status};
@@ -12,8 +12,8 @@ use twe_report::run_text_program;
 /// what the run of that journal could gain, as tables or as JSON. Without such a line the answer is that there is no journal. A
 /// journal may be unfinished or stuck, or end with a fault.
 ///
-/// `Answers` says what each status means and what is written with it. If there are words other than `--json` alone, the answer
-/// is the usage line, and nothing is read from the source. After `Memory` nothing was written.
+/// `Answers` says what each status means and what is written with it. If there are words other than those of the
+/// usage line, the answer is that line, and nothing is read from the source. After `Memory` nothing was written.
 pub fn advise_top<S: Source, O: Sink, E: Sink>(
     alloc: Global,
     words: &[Word],
@@ -25,5 +25,5 @@ pub fn advise_top<S: Source, O: Sink, E: Sink>(
         (sink E.written E.faults E.write_gives))
         words.now (ends src.old out.old err.old) (ends src.new out.new err.new) result }
 {
-    run_text_program::<Form, S, O, E>(alloc, words, src, out, err)
+    run_text_program::<AdviceWords, S, O, E>(alloc, words, src, out, err)
 }

@@ -10,7 +10,7 @@ loop-pace-preserved c =
     let f : PacedTime → List ℕ = json_next_time c.args.work c.args.span in
     let paces : List PacedTime = c.args.paces.now in
     let i : ℕ = c.loop-pace.pace-index in
-    let none : PacedTime = record { workers = 0; time = 0 } in
+    let none : PacedTime = record { workers = 0; time = 0; held = 0 } in
     c.in_ok-push_next_time.ensures
     ∙ (ap (λ (l : List ℕ). l ++ f (get_or paces i none)) c.loop-pace.invariant
     ∙ (flat_map_more f c.args.text.now (take i paces) (get_or paces i none)

@@ -9,6 +9,6 @@ pub returns : goal.returns
 unfolding times_text
 returns c =
     on_ok_weaker c.push_times.result
-    (two_pieces c.args.text.now (codes "\n     workers  least time  paced time\n") (flat_map (time_row c.args.work c.args.span) c.args.paces.now) c.push_all.new.self c.push_times.new.text
+    (two_pieces c.args.text.now (codes "\n     workers  least time  paced time  paced held    speed-up\n") (flat_map (time_row c.args.work c.args.span) c.args.paces.now) c.push_all.new.self c.push_times.new.text
     c.in_ok-push_all.ensures.ok)
     c.push_times.ensures

@@ -2,7 +2,7 @@ use Rattle.std.proofs.Common.{List, ℕ, subst}
 use Rattle.std.proofs.lemmas.Result.{IfOk-weaker}
 use Rattle.twe_advise.specs.Answers.{AdviceDue}
 use Rattle.twe_advise.specs.Parameters.{AreDeclarations}
-use Rattle.twe_advise.proofs.program.FormTextProgram.answer_text.Goals as goal
+use Rattle.twe_advise.proofs.program.AdviceWordsTextProgram.answer_text.Goals as goal
 
 -- the answer is due to the text, whose declarations were read
 pub returns : goal.returns
