@@ -35,5 +35,5 @@ abbrev pub edited : List ℕ → ℕ → ℕ → List ℕ → List ℕ
 edited text from count bytes = take from text ++ (bytes ++ drop count (drop from text))
 
 -- the text without this part
-abbrev pub without : List ℕ → Span → List ℕ
-without text span = take span.start.offset text ++ drop 1 (drop span.last text)
+abbrev pub without_span : List ℕ → Span → List ℕ
+without_span text span = take span.start.offset text ++ drop 1 (drop span.last text)

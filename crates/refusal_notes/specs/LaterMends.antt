@@ -7,7 +7,7 @@ use Rattle.refusal_notes.specs.declared.spots.CutText.{CutText}
 use Rattle.refusal_notes.specs.declared.spots.Mark.{Mark}
 use Rattle.refusal_notes.specs.declared.spots.Spot.{Spot}
 use Rattle.refusal_notes.specs.Edits.{edited, place_offset}
-use Rattle.refusal_notes.specs.Spots.{is_word, next_word, spots_behind}
+use Rattle.refusal_notes.specs.Spots.{token_is, next_word, spots_behind}
 
 -- the tokens at the place and after it
 abbrev pub spots_at : CutText → Place → List Spot
@@ -40,7 +40,7 @@ next_later_mends cut place = later_mend_at cut.bytes (next_word (codes "spawn") 
 
 -- the name at the place is that of a task that is spawned there
 abbrev pub spawns_at : CutText → Place → Bool
-spawns_at cut place = is_word (spots_at cut place) 1 (codes ".") && is_word (spots_at cut place) 2 (codes "spawn")
+spawns_at cut place = token_is (spots_at cut place) 1 (codes ".") && token_is (spots_at cut place) 2 (codes "spawn")
 
 -- the same, if the name at the place is that of a task that is spawned there
 abbrev pub later_mends : CutText → Place → List Mend

@@ -16,7 +16,7 @@ use Rattle.refusal_notes.specs.declared.spots.Mark.{Mark}
 use Rattle.refusal_notes.specs.declared.spots.Span.{Span}
 use Rattle.explain_pages.specs.places.WordAt.{word_at}
 use Rattle.twe_report.specs.Texts.{place_text}
-use Rattle.refusal_notes.specs.Edits.{edited, statement_offset, without}
+use Rattle.refusal_notes.specs.Edits.{edited, statement_offset, without_span}
 use Rattle.refusal_notes.specs.LaterMends.{later_mends, next_later_mends, spawns_at, spots_at}
 use Rattle.refusal_notes.specs.Spots.{IsCut, next_join, next_word}
 
@@ -53,7 +53,7 @@ abbrev pub moved_join_mend : CutText → List ℕ → Place → Span → Mend
 moved_join_mend cut name place span = record {
   said = join_said name place ++ (codes " instead of at " ++ place_text span.start.place);
   comes = join_comes (spawns_at cut place);
-  text = with_join (without cut.bytes span) name place;
+  text = with_join (without_span cut.bytes span) name place;
 }
 
 -- the same, if there is a next one

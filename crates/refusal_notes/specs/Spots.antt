@@ -56,14 +56,14 @@ has_bytes word None = false
 has_bytes word (Some spot) = bytes_eq spot.bytes word
 
 -- the token of this number has these bytes
-abbrev pub is_word : List Spot → ℕ → List ℕ → Bool
-is_word spots number word = has_bytes word (slice_get spots number)
+abbrev pub token_is : List Spot → ℕ → List ℕ → Bool
+token_is spots number word = has_bytes word (slice_get spots number)
 
 -- the tokens begin with `f.join();`
 abbrev pub begin_with_join : List ℕ → List Spot → Bool
 begin_with_join name spots =
-    is_word spots 0 name && (is_word spots 1 (codes ".") && (is_word spots 2 (codes "join") && (is_word spots 3 (codes "(")
-    && (is_word spots 4 (codes ")") && is_word spots 5 (codes ";")))))
+    token_is spots 0 name && (token_is spots 1 (codes ".") && (token_is spots 2 (codes "join") && (token_is spots 3 (codes "(")
+    && (token_is spots 4 (codes ")") && token_is spots 5 (codes ";")))))
 
 -- how many bytes come before the token
 abbrev pub offset_of : Option Spot → ℕ

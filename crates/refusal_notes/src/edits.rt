@@ -1,7 +1,7 @@
 //! Edits of a text: where they begin, and what the text is afterwards.
 ghost use Rattle.std.specs.Prelude.{◌≡◌, IfOk};
 ghost use Rattle.std.specs.List.{prefix_len};
-ghost use Rattle.refusal_notes.specs.Edits.{bytes_before, edited, from_statement, indent_at, is_indent, place_offset, statement_offset, without};
+ghost use Rattle.refusal_notes.specs.Edits.{bytes_before, edited, from_statement, indent_at, is_indent, place_offset, statement_offset, without_span};
 
 use crate::spots::Span;
 use refusal_causes::text_rules::from_place;
@@ -76,8 +76,8 @@ pub(crate) fn edited(
 }
 
 /// The text without this part.
-pub(crate) fn without(alloc: Global, text: &[u8], span: Span) -> Result<Bytes, Memory>
-    ensures { IfOk result (λ made. made ≡ without text.now span) }
+pub(crate) fn without_span(alloc: Global, text: &[u8], span: Span) -> Result<Bytes, Memory>
+    ensures { IfOk result (λ made. made ≡ without_span text.now span) }
 {
     let mut made = Bytes::from_slice(alloc, first_bytes(text, span.start.offset))?;
     made.push_all(after_bytes(after_bytes(text, span.last), 1))?;

@@ -4,7 +4,7 @@ ghost use Rattle.refusal_notes.specs.LaterMends.{later_mend, later_mend_at, late
 
 use crate::edits::{edited, place_offset};
 use crate::mends::{Mend, Mends};
-use crate::spots::{CutText, Mark, Spot, is_word, next_word, spots_behind};
+use crate::spots::{CutText, Mark, Spot, token_is, next_word, spots_behind};
 use std::alloc::Global;
 use twe_base::{Bytes, Memory, Place};
 use twe_report::push_place;
@@ -70,7 +70,7 @@ pub(crate) fn spawns_at(cut: &CutText, place: Place) -> bool
     ensures { result ≡ spawns_at cut.now place }
 {
     let spots = spots_at(cut, place);
-    is_word(spots, 1, b".") && is_word(spots, 2, b"spawn")
+    token_is(spots, 1, b".") && token_is(spots, 2, b"spawn")
 }
 
 /// Adds the edit of the spawn at the place, if the name there is that of a spawned task.

@@ -3,12 +3,12 @@ ghost use Rattle.std.specs.Prelude.{◌≡◌, ◌++◌, [], codes, IfOk, OnOk};
 ghost use Rattle.twe_frontend.specs.meaning.EffectTexts.{effect_text};
 ghost use Rattle.twe_frontend.specs.Accepted.{Accepted, IsRefusal};
 ghost use Rattle.twe_report.specs.Texts.{place_text};
-ghost use Rattle.refusal_notes.specs.Edits.{edited, statement_offset, without};
+ghost use Rattle.refusal_notes.specs.Edits.{edited, statement_offset, without_span};
 ghost use Rattle.refusal_notes.specs.LaterMends.{spots_at};
 ghost use Rattle.refusal_notes.specs.Mends.{AreMends, AreTried, IsTried, TellsAcceptance, declared_mends, effect_mend, join_comes, join_mend, join_said, join_text, mend_at, mend_remark, mends_for, moved_join_mend, moved_mends, out_mends, pure_mend, said_at, with_join};
 ghost use Rattle.refusal_notes.specs.Spots.{next_join, next_word};
 
-use crate::edits::{edited, statement_offset, without};
+use crate::edits::{edited, statement_offset, without_span};
 use crate::later_mends::{push_later, push_later_if, spawns_at, spots_at};
 use crate::spots::{CutText, Mark, Span, cut_text, next_join, next_word};
 use effect_sets::Effect;
@@ -119,9 +119,9 @@ fn with_moved_join(
     place: Place,
     span: Span,
 ) -> Result<Bytes, Memory>
-    ensures { IfOk result (λ made. made ≡ with_join (without text.now span) name.now place) }
+    ensures { IfOk result (λ made. made ≡ with_join (without_span text.now span) name.now place) }
 {
-    let others = without(alloc, text, span)?;
+    let others = without_span(alloc, text, span)?;
     with_join(alloc, others.as_slice(), name, place)
 }
 

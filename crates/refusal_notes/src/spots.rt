@@ -2,7 +2,7 @@
 ghost use Rattle.std.specs.Prelude.{◌≡◌, ◌≤◌, ◌<◌, ◌+◌, ◌∷◌, ◌++◌, [], ℕ, List as Codes, length, slice_get, IfOk, OnOk};
 ghost use Rattle.twe_base.specs.Language.{max_text_bytes};
 ghost use Rattle.twe_lexer.specs.Kinds.{token_kind};
-ghost use Rattle.refusal_notes.specs.Spots.{AreSpots, IsCut, begin_with_join, depth_past, is_word, mark_after, next_join, next_word, offset_of, spots_behind, spots_from};
+ghost use Rattle.refusal_notes.specs.Spots.{AreSpots, IsCut, begin_with_join, depth_past, token_is, mark_after, next_join, next_word, offset_of, spots_behind, spots_from};
 ghost use Rattle.refusal_notes.specs.inner.Cutting.{IsFront};
 
 use std::alloc::Global;
@@ -160,8 +160,8 @@ pub(crate) fn next_word(word: &[u8], spots: &[Spot]) -> Option<Mark>
 }
 
 /// Whether the token of this number has these bytes.
-pub(crate) fn is_word(spots: &[Spot], number: usize, word: &[u8]) -> bool
-    ensures { result ≡ is_word spots.now number word.now }
+pub(crate) fn token_is(spots: &[Spot], number: usize, word: &[u8]) -> bool
+    ensures { result ≡ token_is spots.now number word.now }
 {
     match spots.get(number) {
         Some(spot) => spot.bytes.as_slice() == word,
@@ -173,12 +173,12 @@ pub(crate) fn is_word(spots: &[Spot], number: usize, word: &[u8]) -> bool
 fn begin_with_join(name: &[u8], spots: &[Spot]) -> bool
     ensures { result ≡ begin_with_join name.now spots.now }
 {
-    is_word(spots, 0, name)
-        && is_word(spots, 1, b".")
-        && is_word(spots, 2, b"join")
-        && is_word(spots, 3, b"(")
-        && is_word(spots, 4, b")")
-        && is_word(spots, 5, b";")
+    token_is(spots, 0, name)
+        && token_is(spots, 1, b".")
+        && token_is(spots, 2, b"join")
+        && token_is(spots, 3, b"(")
+        && token_is(spots, 4, b")")
+        && token_is(spots, 5, b";")
 }
 
 /// How many bytes come before the token of this number.
