@@ -1,0 +1,5 @@
+mod LastingRows
+mod Alike
+mod AlikeMoves
+mod Outcomes
+mod Shown
