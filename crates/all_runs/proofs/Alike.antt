@@ -21,9 +21,9 @@ use Rattle.machine_state.specs.Legal.{Interfere, MayMove, MayTake}
 use Rattle.machine_state.specs.Rows.{HasStatus, IsRow, is_done_row}
 use Rattle.machine_state.specs.Runs.{AllTasksDone, IsOutcome}
 use Rattle.machine_state.proofs.lists.Places.{got_one}
-use Rattle.all_runs.specs.Explored.{Answers, HaveOneResult}
-use Rattle.all_runs.specs.Lasting.{AreAlike, lasting, lasting_row}
-use Rattle.all_runs.proofs.LastingRows.{done_lasts, effects_last, row_if_not, status_lasts}
+use Rattle.all_runs.specs.Explored.{EndsAs, HaveOneResult}
+use Rattle.state_copies.specs.Lasting.{AreAlike, lasting, lasting_row}
+use Rattle.state_copies.proofs.LastingRows.{done_lasts, effects_last, row_if_not, status_lasts}
 
 -- Parts.
 

@@ -25,9 +25,9 @@ use Rattle.machine_state.specs.Legal.{MayMove, MayTake}
 use Rattle.machine_state.specs.Moves.{admitted, admitted_row, awaited_value, done_row, faulted_row, first_fault_of, going_row, joined_child, joined_rows, making_frame, move_result, new_row, parent_of, ran, ready_frame, result_by_kind, settling_result, state_after_asking, state_after_fault, state_after_join, state_after_make, stop_result, stopped_frame}
 use Rattle.machine_state.specs.Rows.{HasStatus, IsRow, is_done_row, is_done_status, row_awaited}
 use Rattle.machine_state.proofs.links.LinksAgree.{status_of}
-use Rattle.all_runs.specs.Lasting.{AreAlike, lasting, lasting_row}
+use Rattle.state_copies.specs.Lasting.{AreAlike, lasting, lasting_row}
 use Rattle.all_runs.proofs.Alike.{row_alike}
-use Rattle.all_runs.proofs.LastingRows.{added_once, joined_once, rows_once, set_once, value_once}
+use Rattle.state_copies.proofs.LastingRows.{added_once, joined_once, rows_once, set_once, value_once}
 
 -- Taking the frames of done tasks out first changes nothing of what lasts.
 

@@ -1,4 +1,3 @@
-mod LastingRows
 mod Alike
 mod AlikeMoves
 mod Outcomes

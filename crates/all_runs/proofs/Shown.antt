@@ -16,39 +16,39 @@ use Rattle.machine_state.specs.Runs.{IsOutcome, IsReached, LegalFrom, replayed}
 use Rattle.all_runs.specs.declared.found.EndedRun.{EndedRun}
 use Rattle.all_runs.specs.declared.found.GoingRun.{GoingRun}
 use Rattle.all_runs.specs.AllRuns.{ShowsAllRuns}
-use Rattle.all_runs.specs.Explored.{Answers, IsAnswered, IsClosedBelow, IsExploration, IsKnown, IsSeen}
-use Rattle.all_runs.specs.Lasting.{AreAlike}
+use Rattle.all_runs.specs.Explored.{EndsAs, IsFoundEnd, IsClosedBelow, IsExploration, IsKnown, IsSeen}
+use Rattle.state_copies.specs.Lasting.{AreAlike}
 use Rattle.all_runs.proofs.Alike.{may_alike, one_result, outcome_alike, result_alike}
 use Rattle.all_runs.proofs.AlikeMoves.{move_alike}
 use Rattle.all_runs.proofs.Outcomes.{fault_stays_on, none_if_done, one_outcome, reached_on}
 
 -- what is known of a state is known of one like it
-pub answered_alike : (ended : List EndedRun) (st other : State) (outcome : Outcome) → AreAlike st other → IsAnswered ended st outcome → IsAnswered ended other outcome
-answered_alike ended st other outcome alike (at, run, is, answers) =
+pub end_alike : (ended : List EndedRun) (st other : State) (outcome : Outcome) → AreAlike st other → IsFoundEnd ended st outcome → IsFoundEnd ended other outcome
+end_alike ended st other outcome alike (at, run, is, answers) =
     (at, run, is, record { ended_so = answers.ended_so; result = λ all. one_result run.state st other (answers.result all) (result_alike st other alike) })
 
 known_alike : (going : List GoingRun) (ended : List EndedRun) (st other : State) → AreAlike st other → IsKnown going ended st → IsKnown going ended other
 known_alike going ended st other alike (inl (at, run, is, seen)) = inl (at, run, is, seen ∙ alike)
 known_alike going ended st other alike (inr (outcome, is, answered)) =
-    inr (outcome, outcome_alike st other outcome alike is, answered_alike ended st other outcome alike answered)
+    inr (outcome, outcome_alike st other outcome alike is, end_alike ended st other outcome alike answered)
 
 module _ (p : Program) (lim : Bounds) (going : List GoingRun) (ended : List EndedRun) (well : IsWellFormed p)
     (explored : IsExploration p lim going ended) (closed : IsClosedBelow p lim going ended (length going)) where
   -- an answer is that of a run that has ended
-  over : (st : State) (outcome : Outcome) → IsAnswered ended st outcome → outcome ≢ Unfinished
+  over : (st : State) (outcome : Outcome) → IsFoundEnd ended st outcome → outcome ≢ Unfinished
   over st outcome (at, run, is, answers) unfinished = (explored.ended_runs at run is).over (answers.ended_so ∙ unfinished)
 
   -- after an end there is none but that one
-  ends : (st : State) (entries : List Entry) (first outcome : Outcome) → IsReached p lim st → LegalFrom p lim st entries → IsOutcome st first → IsAnswered ended st first
-      → IsOutcome (replayed p lim st entries) outcome → IsAnswered ended (replayed p lim st entries) outcome
+  ends : (st : State) (entries : List Entry) (first outcome : Outcome) → IsReached p lim st → LegalFrom p lim st entries → IsOutcome st first → IsFoundEnd ended st first
+      → IsOutcome (replayed p lim st entries) outcome → IsFoundEnd ended (replayed p lim st entries) outcome
   ends st entries Unfinished outcome reached legal is answered end = absurd (over st Unfinished answered refl)
   ends st entries (Fault task kind place) outcome reached legal is (at, run, there, answers) end =
       let still = fault_stays_on p lim well entries st _ reached legal is in
       let same : Fault task kind place ≡ outcome = one_outcome (replayed p lim st entries) (Fault task kind place) outcome still end in
       (at, run, there, record { ended_so = answers.ended_so ∙ same; result = λ all. absurd (cc (same, all)) })
-  ends st [] AllDone outcome reached legal is answered end = subst (IsAnswered ended st) (one_outcome st AllDone outcome is end) answered
+  ends st [] AllDone outcome reached legal is answered end = subst (IsFoundEnd ended st) (one_outcome st AllDone outcome is end) answered
   ends st (entry ∷ entries) AllDone outcome reached legal is answered end = absurd (none_if_done st entry.mv is.1 legal.0)
-  ends st [] Stuck outcome reached legal is answered end = subst (IsAnswered ended st) (one_outcome st Stuck outcome is end) answered
+  ends st [] Stuck outcome reached legal is answered end = subst (IsFoundEnd ended st) (one_outcome st Stuck outcome is end) answered
   ends st (entry ∷ entries) Stuck outcome reached legal is answered end = absurd (is.2 entry.mv legal.0)
 
   -- the moves of a state that was seen lead to known states
@@ -59,7 +59,7 @@ module _ (p : Program) (lim : Bounds) (going : List GoingRun) (ended : List Ende
       (closed at run mv (slice_get_within going at run is) is its)
 
   shown : (entries : List Entry) (st : State) (outcome : Outcome) → IsReached p lim st → IsKnown going ended st → LegalFrom p lim st entries → IsOutcome (replayed p lim st entries) outcome
-      → outcome ≢ Unfinished → IsAnswered ended (replayed p lim st entries) outcome
+      → outcome ≢ Unfinished → IsFoundEnd ended (replayed p lim st entries) outcome
   shown entries st outcome reached (inr (first, is, answered)) legal end finished = ends st entries first outcome reached legal is answered end
   shown [] st outcome reached (inl (at, run, is, alike)) legal end finished =
       absurd (finished (one_outcome st outcome Unfinished end (outcome_alike run.state st Unfinished alike (explored.going_runs at run is).unfinished)))

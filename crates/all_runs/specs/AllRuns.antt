@@ -7,18 +7,18 @@ use Rattle.machine_state.specs.declared.ending.Outcome.{Outcome}
 use Rattle.machine_state.specs.declared.ending.Outcome.TheVariants.{Unfinished}
 use Rattle.machine_state.specs.Runs.{IsOutcome, Legal, state_after}
 use Rattle.all_runs.specs.declared.found.EndedRun.{EndedRun}
-use Rattle.all_runs.specs.Explored.{Answers, HasEnded, IsAnswered}
+use Rattle.all_runs.specs.Explored.{EndsAs, HasEnded, IsFoundEnd}
 
 -- These are runs of the program under the limits, each with the legal journal that leads to it. Each has ended, and no two in one
 -- way.
 pub record ShowsRuns (p : Program) (lim : Bounds) (ended : List EndedRun) : Type 0 where
   pub each : (at : ℕ) (run : EndedRun) → slice_get ended at ≡ Some run → HasEnded p lim run
   pub apart : (at later : ℕ) (run other : EndedRun) → at < later → slice_get ended at ≡ Some run → slice_get ended later ≡ Some other
-      → ¬ Answers run other.state other.outcome
+      → ¬ EndsAs run other.state other.outcome
 
 -- Each run of the program under the limits that has ended, by whatever legal journal it was made, has ended as one of these: with
 -- the same outcome and, if all tasks are done, with the same result.
 abbrev pub ShowsAllRuns : Program → Bounds → List EndedRun → Type 0
 ShowsAllRuns p lim ended =
     (journal : List Entry) (outcome : Outcome) → Legal p lim journal → IsOutcome (state_after p lim journal) outcome
-    → outcome ≢ Unfinished → IsAnswered ended (state_after p lim journal) outcome
+    → outcome ≢ Unfinished → IsFoundEnd ended (state_after p lim journal) outcome

@@ -11,7 +11,7 @@ use Rattle.machine_state.specs.Moves.{move_result, start_of}
 use Rattle.machine_state.specs.Runs.{IsOutcome, IsRun}
 use Rattle.all_runs.specs.declared.found.EndedRun.{EndedRun}
 use Rattle.all_runs.specs.declared.found.GoingRun.{GoingRun}
-use Rattle.all_runs.specs.Lasting.{AreAlike}
+use Rattle.state_copies.specs.Lasting.{AreAlike}
 
 -- The run is one of the program, and it can go on.
 pub record CanGoOn (p : Program) (lim : Bounds) (run : GoingRun) : Type 0 where
@@ -32,7 +32,7 @@ pub record HaveOneResult (st other : State) : Type 0 where
 
 -- The run has ended as one with this outcome in this state has: with the same outcome, which for a fault has the task that met
 -- it, its kind and its place; and if all tasks are done, with the same result.
-pub record Answers (run : EndedRun) (st : State) (outcome : Outcome) : Type 0 where
+pub record EndsAs (run : EndedRun) (st : State) (outcome : Outcome) : Type 0 where
   pub ended_so : run.outcome ≡ outcome
   pub result : outcome ≡ AllDone → HaveOneResult run.state st
 
@@ -41,20 +41,20 @@ abbrev pub IsSeen : List GoingRun → State → Type 0
 IsSeen going st = (at : ℕ) × (run : GoingRun) × (slice_get going at ≡ Some run) × AreAlike run.state st
 
 -- a run that was found has ended as one with this outcome in this state has
-abbrev pub IsAnswered : List EndedRun → State → Outcome → Type 0
-IsAnswered ended st outcome = (at : ℕ) × (run : EndedRun) × (slice_get ended at ≡ Some run) × Answers run st outcome
+abbrev pub IsFoundEnd : List EndedRun → State → Outcome → Type 0
+IsFoundEnd ended st outcome = (at : ℕ) × (run : EndedRun) × (slice_get ended at ≡ Some run) × EndsAs run st outcome
 
 -- a run that has come to this state is known: it can go on, and a state like this one was seen; or it has ended, and one that was
 -- found has ended so too
 abbrev pub IsKnown : List GoingRun → List EndedRun → State → Type 0
-IsKnown going ended st = IsSeen going st ⊎ ((outcome : Outcome) × IsOutcome st outcome × IsAnswered ended st outcome)
+IsKnown going ended st = IsSeen going st ⊎ ((outcome : Outcome) × IsOutcome st outcome × IsFoundEnd ended st outcome)
 
 -- What was found: runs that can go on, and runs that have ended, no two of them in one way. The run without a move is known.
 pub record IsExploration (p : Program) (lim : Bounds) (going : List GoingRun) (ended : List EndedRun) : Type 0 where
   pub going_runs : (at : ℕ) (run : GoingRun) → slice_get going at ≡ Some run → CanGoOn p lim run
   pub ended_runs : (at : ℕ) (run : EndedRun) → slice_get ended at ≡ Some run → HasEnded p lim run
   pub apart : (at later : ℕ) (run other : EndedRun) → at < later → slice_get ended at ≡ Some run → slice_get ended later ≡ Some other
-      → ¬ Answers run other.state other.outcome
+      → ¬ EndsAs run other.state other.outcome
   pub start : IsKnown going ended (start_of p lim)
 
 -- each legal move of a run that was found, of those before this place, leads to a run that is known

@@ -1,7 +1,7 @@
 //! What a worker needs to run a draft: the start of a segment, and room, of which the cells are known by the type alone.
 ghost use Rattle.std.specs.Prelude.{◌≡◌};
 ghost use Rattle.twe_program.specs.Program.{cell_count};
-ghost use Rattle.opt_engine.specs.Drafts.{unreserved};
+ghost use Rattle.state_copies.specs.Frames.{unreserved};
 
 use opt_engine::{RoundName, Scratch, Start};
 use std::marker::{Model, PhantomData};
@@ -15,7 +15,7 @@ pub(crate) struct PlainStart {
 impl Model for PlainStart {
     ghost use Rattle.std.specs.Prelude.{◌≡◌};
     ghost use Rattle.opt_engine.specs.declared.starts.Start.{Start};
-    ghost use Rattle.opt_engine.specs.Drafts.{unreserved};
+    ghost use Rattle.state_copies.specs.Frames.{unreserved};
 
     ghost Value = { Start };
 

@@ -19,7 +19,8 @@ use Rattle.opt_engine.specs.declared.notes.CellMark.TheVariants as marks
 use Rattle.opt_engine.specs.declared.notes.CellNotes.{CellNotes}
 use Rattle.opt_engine.specs.declared.touch.CellValue.{CellValue}
 use Rattle.opt_engine.specs.declared.touching.Touching.{Touching}
-use Rattle.opt_engine.specs.Drafts.{IsDraftedOf, StandsIn, unreserved}
+use Rattle.opt_engine.specs.Drafts.{IsDraftedOf, StandsIn}
+use Rattle.state_copies.specs.Frames.{unreserved}
 use Rattle.opt_engine.specs.Touches.{first_reads, is_touched, last_write, last_writes, last_written, written_cells}
 use Rattle.opt_engine.specs.inner.Hinting.{HintFollows, hint_knows, hint_ways, known_by, without_marks}
 use Rattle.opt_engine.specs.inner.Noting.{fresh, no_notes, notes_after, read_noted, value_at, write_noted}

@@ -1,11 +1,9 @@
 pub mod Places
 pub mod Marks
-pub mod Sameness
 pub mod Touched
 pub mod Drafting
 pub mod Hinting
 pub mod HintedRuns
-pub mod Plain
 pub mod Nexts
 pub mod Changes
 pub mod Committed

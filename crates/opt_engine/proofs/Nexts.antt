@@ -17,9 +17,10 @@ use Rattle.machine_state.proofs.standing.ReachedStands.{reached_stands}
 use Rattle.machine_state.proofs.standing.SettlesNext.{as_many_links}
 use Rattle.opt_engine.specs.declared.drafts.Drafted.{Drafted}
 use Rattle.opt_engine.specs.declared.starts.Start.{Start}
-use Rattle.opt_engine.specs.Drafts.{IsDraftedOf, IsNext, DraftIsReady, unreserved}
+use Rattle.opt_engine.specs.Drafts.{IsDraftedOf, IsNext, DraftIsReady}
+use Rattle.state_copies.specs.Frames.{unreserved}
 use Rattle.opt_engine.specs.Verdicts.{IsDraftAt, IsStartAt}
-use Rattle.opt_engine.proofs.Plain.{plainly_ready}
+use Rattle.state_copies.proofs.Plain.{plainly_ready}
 
 -- a ready task has met no fault
 pub ready_well : (st : State) (t : ℕ) (row : TaskRow) → DraftIsReady st t → IsRow st t row → row.status ≢ Faulted

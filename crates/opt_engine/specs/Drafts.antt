@@ -10,14 +10,11 @@ use Rattle.machine_state.specs.declared.state.TaskStatus.TheVariants.{Made}
 use Rattle.machine_state.specs.Legal.{MayRun}
 use Rattle.machine_state.specs.Moves.{ready_frame}
 use Rattle.machine_state.specs.Rows.{HasStatus, IsRow}
+use Rattle.state_copies.specs.Frames.{unreserved}
 use Rattle.opt_engine.specs.declared.touch.CellValue.{CellValue}
 use Rattle.opt_engine.specs.declared.drafts.Draft.{Draft}
 use Rattle.opt_engine.specs.declared.drafts.Drafted.{Drafted}
 use Rattle.opt_engine.specs.Touches.{first_reads, last_writes}
-
--- the frame with no memory reserved for a further child
-abbrev pub unreserved : Frame → Frame
-unreserved frame = record frame { out = record frame.out { room = 0 } }
 
 -- the draft is one of the program: it has a value for each cell, and nothing is reserved in its frame
 pub record IsDraftOf (p : Program) (draft : Draft) : Type 0 where

@@ -24,7 +24,8 @@ use Rattle.opt_engine.specs.declared.drafts.Drafted.{Drafted}
 use Rattle.opt_engine.specs.declared.starts.Start.{Start}
 use Rattle.opt_engine.specs.declared.verdict.Verdict.{Verdict}
 use Rattle.opt_engine.specs.declared.verdict.Verdict.TheVariants.{Committed, Passed, Held, Changed}
-use Rattle.opt_engine.specs.Drafts.{AccessesBeginWith, Fits, IsDraftOf, IsNext, DraftIsReady, StandsIn, unreserved}
+use Rattle.opt_engine.specs.Drafts.{AccessesBeginWith, Fits, IsDraftOf, IsNext, DraftIsReady, StandsIn}
+use Rattle.state_copies.specs.Frames.{unreserved}
 
 -- The journal is legal for the program under the limits, and leads to the state. It goes on from the earlier one.
 pub record RunGoesOn (p : Program) (lim : Bounds) (earlier : List Entry) (run : CoreRun) : Type 0 where

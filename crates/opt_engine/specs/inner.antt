@@ -1,4 +1,3 @@
-pub mod Frames
 pub mod Hinting
 pub mod Judging
 pub mod Knowing

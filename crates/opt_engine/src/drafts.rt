@@ -2,11 +2,11 @@
 ghost use Rattle.std.specs.Prelude.{◌≡◌, IfOk};
 ghost use Rattle.opt_engine.specs.Drafts.{IsDraftOf, drafted};
 
-use crate::frames::copy_frame;
 use crate::touch::Touched;
 use crate::touching::Touching;
 use seg_exec::run_segment;
 use seg_meaning::{Frame, Stop};
+use state_copies::copy_frame;
 use std::alloc::Global;
 use twe_base::{Ints, Memory};
 use twe_program::Prog;

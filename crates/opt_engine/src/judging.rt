@@ -12,12 +12,12 @@ ghost use Rattle.opt_engine.specs.Verdicts.{IsFree};
 ghost use Rattle.opt_engine.specs.inner.Judging.{Finds, HasChanged, IsChange};
 
 use crate::drafts::Drafted;
-use crate::frames::same_frame;
 use crate::readiness::{is_ready, ready_copy};
 use crate::touch::CellValue;
 use flat_sched::is_made;
 use machine_state::{State, Why};
 use seg_journal::{Kind, Move};
+use state_copies::same_frame;
 use std::alloc::Global;
 use twe_base::{Ints, Memory};
 use twe_machine::EnabledTasks;

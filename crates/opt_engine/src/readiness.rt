@@ -5,14 +5,15 @@ ghost use Rattle.machine_state.specs.Moves.{ready_frame};
 ghost use Rattle.machine_state.specs.Rows.{HasStatus};
 ghost use Rattle.machine_state.specs.Runs.{IsReached};
 ghost use Rattle.twe_base.specs.Limits.{Bounds};
-ghost use Rattle.opt_engine.specs.Drafts.{DraftIsReady, unreserved};
+ghost use Rattle.opt_engine.specs.Drafts.{DraftIsReady};
+ghost use Rattle.state_copies.specs.Frames.{unreserved};
 ghost use Rattle.opt_engine.specs.Verdicts.{IsDraftAt, IsStartAt};
 
 use crate::drafts::Draft;
-use crate::frames::copy_frame;
 use crate::starts::Start;
 use machine_state::{State, TaskRow, TaskStatus};
 use seg_meaning::Frame;
+use state_copies::copy_frame;
 use std::alloc::Global;
 use twe_base::{List, Memory};
 use twe_machine::{awaited, awaited_value};

@@ -1,16 +1,17 @@
 //! Segments that may be run ahead, and running them over hints.
 ghost use Rattle.std.specs.Prelude.{◌≡◌, IfOk};
 ghost use Rattle.twe_program.specs.Program.{cell_count};
-ghost use Rattle.opt_engine.specs.Drafts.{IsDraftedOf, unreserved};
+ghost use Rattle.opt_engine.specs.Drafts.{IsDraftedOf};
+ghost use Rattle.state_copies.specs.Frames.{unreserved};
 
 use crate::drafts::Drafted;
-use crate::frames::copy_frame;
 use crate::hinted::Hinted;
 use crate::hints::Hints;
 use crate::scratch::Scratch;
 use crate::touching::Noted;
 use seg_exec::run_segment;
 use seg_meaning::Frame;
+use state_copies::copy_frame;
 use std::alloc::Global;
 use steal_pool::gates::Gate;
 use twe_base::Memory;

@@ -29,7 +29,7 @@ use Rattle.machine_state.specs.Rows.{HasStatus, IsRow, row_awaited}
 use Rattle.machine_state.specs.Runs.{IsReached, LegalFrom, replayed}
 use Rattle.machine_state.proofs.links.LinksAgree.{status_of}
 use Rattle.machine_state.proofs.lists.Places.{got_one, put_cases, set_cases}
-use Rattle.opt_engine.specs.Drafts.{unreserved}
+use Rattle.state_copies.specs.Frames.{unreserved}
 
 abbrev pub IsPlainRow : TaskRow → Type 0
 IsPlainRow row = row.status ≢ Faulted → row.frame.out.room ≡ 0
@@ -149,7 +149,7 @@ start_plain : (p : Program) (lim : Bounds) → ArePlain (start_of p lim).tasks
 start_plain p lim zero row is = let same = got_one (slice_get (start_of p lim).tasks 0) refl is in subst IsPlainRow same (λ well. refl)
 start_plain p lim (suc u) row is = absurd (cc (is))
 
-reached_plain : (p : Program) (lim : Bounds) (st : State) → IsReached p lim st → ArePlain st.tasks
+pub reached_plain : (p : Program) (lim : Bounds) (st : State) → IsReached p lim st → ArePlain st.tasks
 reached_plain p lim st reached =
     subst (λ (s : State). ArePlain s.tasks) (sym reached.same) (run_plain p lim (start_of p lim) reached.journal reached.legal (start_plain p lim))
 

@@ -1,14 +1,13 @@
 -- Rows without the frames of done tasks.
-use Rattle.std.proofs.Common.{◌≡◌, ◌++◌, ℕ, zero, suc, ℤ, Bool, true, false, List, [], ◌∷◌, Option, None, Some, map, refl, sym, ap, ◌∙◌}
+use Rattle.std.proofs.Common.{◌≡◌, ◌++◌, ℕ, zero, suc, Bool, true, false, List, [], ◌∷◌, Option, None, Some, map, refl, sym, ap, ◌∙◌}
 use Rattle.std.specs.Prelude.{if◌then◌else◌, slice_get, slice_set}
 use Rattle.std.proofs.lemmas.List.{map-append}
 use Rattle.machine_state.specs.declared.state.TaskRow.{TaskRow}
-use Rattle.machine_state.specs.declared.state.TaskStatus.{TaskStatus}
 use Rattle.machine_state.specs.FramesOut.{without_frame}
 use Rattle.machine_state.specs.Moves.{joined_row, joined_rows, value_of}
 use Rattle.machine_state.specs.Rows.{is_done_row, is_done_status}
 use Rattle.machine_state.proofs.lists.Places.{map_set}
-use Rattle.all_runs.specs.Lasting.{lasting_row}
+use Rattle.state_copies.specs.Lasting.{lasting_row}
 
 -- One row.
 

@@ -1,9 +1,7 @@
-//! Copies of frames, and whether two frames are the same.
-//!
-//! A frame may have memory reserved for one more child. A copy has none reserved, and the comparison leaves this out.
+//! Copies of frames, and whether two frames are the same but for reserved memory.
 ghost use Rattle.std.specs.Prelude.{◌≡◌, ◌↔◌, IfOk, IsTrue};
-ghost use Rattle.opt_engine.specs.Drafts.{unreserved};
-ghost use Rattle.opt_engine.specs.inner.Frames.{SameContents, SameProgress};
+ghost use Rattle.state_copies.specs.Frames.{unreserved};
+ghost use Rattle.state_copies.specs.inner.Frames.{SameContents, SameProgress};
 
 use seg_meaning::{Children, Frame, OpenBody, Position};
 use std::alloc::Global;
@@ -99,7 +97,8 @@ fn same_open_body(a: &OpenBody, b: &OpenBody) -> bool
         && same_positions(a.open_blocks.as_slice(), b.open_blocks.as_slice())
 }
 
-fn same_ints(a: &[i32], b: &[i32]) -> bool
+/// Whether two slices have the same numbers.
+pub fn same_ints(a: &[i32], b: &[i32]) -> bool
     ensures { IsTrue result ↔ (a.now ≡ b.now) }
 {
     a == b

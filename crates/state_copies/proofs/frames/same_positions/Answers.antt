@@ -2,7 +2,7 @@ use Rattle.std.proofs.Common.{ap}
 use Rattle.std.proofs.lemmas.Bool.Decides.{Decides-and, Decides-eqb, Decides-like}
 use Rattle.std.proofs.lemmas.Slice.Eq.{slice_eq-Decides}
 use Rattle.seg_meaning.specs.declared.frame.Position.{Position}
-use Rattle.opt_engine.proofs.frames.same_positions.Goals as goal
+use Rattle.state_copies.proofs.frames.same_positions.Goals as goal
 
 pub returns : goal.returns
 returns c =

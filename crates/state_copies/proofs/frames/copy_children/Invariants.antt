@@ -1,5 +1,5 @@
 use Rattle.std.proofs.Common.{◌≡◌, take}
-use Rattle.opt_engine.proofs.frames.copy_children.Given as goal
+use Rattle.state_copies.proofs.frames.copy_children.Given as goal
 
 abbrev pub invariant-loop-child : goal.invariant-loop-child
 invariant-loop-child l = l.copy ≡ record { items = take l.child-index l.children.items; room = 0 }

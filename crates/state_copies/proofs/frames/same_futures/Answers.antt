@@ -4,7 +4,7 @@ use Rattle.std.specs.Option.{option_eq}
 use Rattle.std.specs.Prelude.{◌==◌}
 use Rattle.std.proofs.lemmas.Bool.Decides.{Decides-eqb, Decides-like}
 use Rattle.std.proofs.lemmas.Slice.Eq.{slice_eq-Decides}
-use Rattle.opt_engine.proofs.frames.same_futures.Goals as goal
+use Rattle.state_copies.proofs.frames.same_futures.Goals as goal
 
 futures_decide : (a b : Option ℕ) → Decides (option_eq (λ (x y : ℕ). x == y) a b) (a ≡ b)
 futures_decide None None = (λ yes. refl, λ same. refl)

@@ -2,8 +2,8 @@
 use Rattle.std.proofs.Common.{◌≡◌, Bool, false, ap}
 use Rattle.std.specs.Prelude.{◌↔◌, IsTrue}
 use Rattle.seg_meaning.specs.declared.frame.Frame.{Frame}
-use Rattle.opt_engine.specs.Drafts.{unreserved}
-use Rattle.opt_engine.specs.inner.Frames.{SameContents, SameProgress}
+use Rattle.state_copies.specs.Frames.{unreserved}
+use Rattle.state_copies.specs.inner.Frames.{SameContents, SameProgress}
 
 pub same_parts : (a b : Frame) → SameProgress a b → SameContents a b → unreserved a ≡ unreserved b
 same_parts a b progress contents = λ i. record {

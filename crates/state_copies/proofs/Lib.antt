@@ -1,0 +1,6 @@
+pub mod Sameness
+pub mod Plain
+pub mod CopiedLinks
+pub mod LastingRows
+pub mod MatchedRows
+pub mod MatchedStates
