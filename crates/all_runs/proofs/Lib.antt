@@ -2,3 +2,5 @@ mod Alike
 mod AlikeMoves
 mod Outcomes
 mod Shown
+mod Successors
+mod Growing

@@ -14,7 +14,7 @@ use Rattle.machine_state.specs.Legal.{MayMove}
 use Rattle.machine_state.specs.Moves.{move_result, start_of}
 use Rattle.machine_state.specs.Runs.{IsOutcome, IsReached, LegalFrom, replayed}
 use Rattle.all_runs.specs.declared.found.EndedRun.{EndedRun}
-use Rattle.all_runs.specs.declared.found.GoingRun.{GoingRun}
+use Rattle.all_runs.specs.declared.found.FoundRun.{FoundRun}
 use Rattle.all_runs.specs.AllRuns.{ShowsAllRuns}
 use Rattle.all_runs.specs.Explored.{EndsAs, IsFoundEnd, IsClosedBelow, IsExploration, IsKnown, IsSeen}
 use Rattle.state_copies.specs.Lasting.{AreAlike}
@@ -27,16 +27,16 @@ pub end_alike : (ended : List EndedRun) (st other : State) (outcome : Outcome) �
 end_alike ended st other outcome alike (at, run, is, answers) =
     (at, run, is, record { ended_so = answers.ended_so; result = λ all. one_result run.state st other (answers.result all) (result_alike st other alike) })
 
-known_alike : (going : List GoingRun) (ended : List EndedRun) (st other : State) → AreAlike st other → IsKnown going ended st → IsKnown going ended other
+known_alike : (going : List FoundRun) (ended : List EndedRun) (st other : State) → AreAlike st other → IsKnown going ended st → IsKnown going ended other
 known_alike going ended st other alike (inl (at, run, is, seen)) = inl (at, run, is, seen ∙ alike)
 known_alike going ended st other alike (inr (outcome, is, answered)) =
     inr (outcome, outcome_alike st other outcome alike is, end_alike ended st other outcome alike answered)
 
-module _ (p : Program) (lim : Bounds) (going : List GoingRun) (ended : List EndedRun) (well : IsWellFormed p)
+module _ (p : Program) (lim : Bounds) (going : List FoundRun) (ended : List EndedRun) (well : IsWellFormed p)
     (explored : IsExploration p lim going ended) (closed : IsClosedBelow p lim going ended (length going)) where
   -- an answer is that of a run that has ended
   over : (st : State) (outcome : Outcome) → IsFoundEnd ended st outcome → outcome ≢ Unfinished
-  over st outcome (at, run, is, answers) unfinished = (explored.ended_runs at run is).over (answers.ended_so ∙ unfinished)
+  over st outcome (at, run, is, answers) unfinished = (explored.found.ended_runs at run is).over (answers.ended_so ∙ unfinished)
 
   -- after an end there is none but that one
   ends : (st : State) (entries : List Entry) (first outcome : Outcome) → IsReached p lim st → LegalFrom p lim st entries → IsOutcome st first → IsFoundEnd ended st first
@@ -62,7 +62,7 @@ module _ (p : Program) (lim : Bounds) (going : List GoingRun) (ended : List Ende
       → outcome ≢ Unfinished → IsFoundEnd ended (replayed p lim st entries) outcome
   shown entries st outcome reached (inr (first, is, answered)) legal end finished = ends st entries first outcome reached legal is answered end
   shown [] st outcome reached (inl (at, run, is, alike)) legal end finished =
-      absurd (finished (one_outcome st outcome Unfinished end (outcome_alike run.state st Unfinished alike (explored.going_runs at run is).unfinished)))
+      absurd (finished (one_outcome st outcome Unfinished end (outcome_alike run.state st Unfinished alike (explored.found.going_runs at run is).unfinished)))
   shown (entry ∷ entries) st outcome reached (inl seen) legal end finished =
       shown entries (move_result p lim st entry.mv).0 outcome (reached_on p lim st entry.mv reached legal.0) (goes_on st entry.mv seen legal.0) legal.2 end finished
 

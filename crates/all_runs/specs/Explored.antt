@@ -10,11 +10,11 @@ use Rattle.machine_state.specs.Legal.{MayMove}
 use Rattle.machine_state.specs.Moves.{move_result, start_of}
 use Rattle.machine_state.specs.Runs.{IsOutcome, IsRun}
 use Rattle.all_runs.specs.declared.found.EndedRun.{EndedRun}
-use Rattle.all_runs.specs.declared.found.GoingRun.{GoingRun}
+use Rattle.all_runs.specs.declared.found.FoundRun.{FoundRun}
 use Rattle.state_copies.specs.Lasting.{AreAlike}
 
 -- The run is one of the program, and it can go on.
-pub record CanGoOn (p : Program) (lim : Bounds) (run : GoingRun) : Type 0 where
+pub record CanGoOn (p : Program) (lim : Bounds) (run : FoundRun) : Type 0 where
   pub is_run : IsRun p lim run.journal run.state
   pub unfinished : IsOutcome run.state Unfinished
 
@@ -37,8 +37,8 @@ pub record EndsAs (run : EndedRun) (st : State) (outcome : Outcome) : Type 0 whe
   pub result : outcome ≡ AllDone → HaveOneResult run.state st
 
 -- a run that was found has come to a state that is like this one
-abbrev pub IsSeen : List GoingRun → State → Type 0
-IsSeen going st = (at : ℕ) × (run : GoingRun) × (slice_get going at ≡ Some run) × AreAlike run.state st
+abbrev pub IsSeen : List FoundRun → State → Type 0
+IsSeen going st = (at : ℕ) × (run : FoundRun) × (slice_get going at ≡ Some run) × AreAlike run.state st
 
 -- a run that was found has ended as one with this outcome in this state has
 abbrev pub IsFoundEnd : List EndedRun → State → Outcome → Type 0
@@ -46,19 +46,23 @@ IsFoundEnd ended st outcome = (at : ℕ) × (run : EndedRun) × (slice_get ended
 
 -- a run that has come to this state is known: it can go on, and a state like this one was seen; or it has ended, and one that was
 -- found has ended so too
-abbrev pub IsKnown : List GoingRun → List EndedRun → State → Type 0
+abbrev pub IsKnown : List FoundRun → List EndedRun → State → Type 0
 IsKnown going ended st = IsSeen going st ⊎ ((outcome : Outcome) × IsOutcome st outcome × IsFoundEnd ended st outcome)
 
--- What was found: runs that can go on, and runs that have ended, no two of them in one way. The run without a move is known.
-pub record IsExploration (p : Program) (lim : Bounds) (going : List GoingRun) (ended : List EndedRun) : Type 0 where
-  pub going_runs : (at : ℕ) (run : GoingRun) → slice_get going at ≡ Some run → CanGoOn p lim run
+-- These runs were found: some that can go on, and some that have ended, no two of them in one way.
+pub record AreFound (p : Program) (lim : Bounds) (going : List FoundRun) (ended : List EndedRun) : Type 0 where
+  pub going_runs : (at : ℕ) (run : FoundRun) → slice_get going at ≡ Some run → CanGoOn p lim run
   pub ended_runs : (at : ℕ) (run : EndedRun) → slice_get ended at ≡ Some run → HasEnded p lim run
   pub apart : (at later : ℕ) (run other : EndedRun) → at < later → slice_get ended at ≡ Some run → slice_get ended later ≡ Some other
       → ¬ EndsAs run other.state other.outcome
+
+-- These runs were found, and the run without a move is known.
+pub record IsExploration (p : Program) (lim : Bounds) (going : List FoundRun) (ended : List EndedRun) : Type 0 where
+  pub found : AreFound p lim going ended
   pub start : IsKnown going ended (start_of p lim)
 
 -- each legal move of a run that was found, of those before this place, leads to a run that is known
-abbrev pub IsClosedBelow : Program → Bounds → List GoingRun → List EndedRun → ℕ → Type 0
+abbrev pub IsClosedBelow : Program → Bounds → List FoundRun → List EndedRun → ℕ → Type 0
 IsClosedBelow p lim going ended bound =
-    (at : ℕ) (run : GoingRun) (mv : Move) → at < bound → slice_get going at ≡ Some run → MayMove run.state mv
+    (at : ℕ) (run : FoundRun) (mv : Move) → at < bound → slice_get going at ≡ Some run → MayMove run.state mv
     → IsKnown going ended (move_result p lim run.state mv).0

@@ -3,9 +3,9 @@
 use machine_state::{Outcome, State};
 use seg_journal::Journal;
 
-/// A run that can go on: its journal, and the state that it has come to.
+/// A run that was found: its journal, and the state that it has come to.
 #[derive(Debug, Drop)]
-pub struct GoingRun {
+pub struct FoundRun {
     /// The entries so far.
     pub journal: Journal,
     /// The state that they lead to.

@@ -1,11 +1,17 @@
 //! All runs of a program under given limits: how they can end.
 //!
-//! Every legal move of every state that is found is taken, each state once. No scheduler takes part, so what is found holds of
-//! each of them. How an end is written is left to the crates above.
+//! Each legal move of each state that is found is taken. No scheduler takes part, so what is found holds of each of them. How an end
+//! is written is left to the crates above.
 #![tactic(auto)]
 
+mod ends;
+mod exploring;
 mod found;
+mod index;
 mod laws;
+mod successor;
+mod ways_to_end;
 
-pub use found::{EndedRun, GoingRun};
+pub use ends::{FoundEnds, find_ends};
+pub use found::{EndedRun, FoundRun};
 pub use laws::closed_explorations_show_all_runs;

@@ -1,0 +1,31 @@
+use Rattle.std.proofs.Common.{◌≡◌, ◌++◌, List, [], ◌∷◌, sym, subst}
+use Rattle.all_runs.specs.declared.found.EndedRun.{EndedRun}
+use Rattle.all_runs.specs.Explored.{AreFound, IsFoundEnd}
+use Rattle.all_runs.specs.inner.Growing.{Grows}
+use Rattle.all_runs.proofs.Growing.{found_with_ended, grows_by_ended, if_ok, last_ends}
+use Rattle.all_runs.proofs.exploring.Exploration.add_ended.Goals as goal
+
+pub returns-clause-found : goal.returns-clause-found
+returns-clause-found c =
+    let old = c.args.self.now in
+    if_ok c.push.result
+    (λ (is : c.push.new.self ≡ old.ended ++ c.args.next ∷ []). λ p lim found over.
+        subst (λ (ended : List EndedRun). AreFound p lim old.going ended) (sym is)
+        (found_with_ended p lim old.going old.ended found c.args.next over ?))
+    c.push.ensures.ok
+
+pub returns-clause-grows : goal.returns-clause-grows
+returns-clause-grows c =
+    let old = c.args.self.now in
+    if_ok c.push.result
+    (λ (is : c.push.new.self ≡ old.ended ++ c.args.next ∷ []).
+        subst (λ (ended : List EndedRun). Grows old.going old.ended old.going ended) (sym is) (grows_by_ended old.going old.ended c.args.next))
+    c.push.ensures.ok
+
+pub returns-clause-answered : goal.returns-clause-answered
+returns-clause-answered c =
+    let old = c.args.self.now in
+    if_ok c.push.result
+    (λ (is : c.push.new.self ≡ old.ended ++ c.args.next ∷ []).
+        subst (λ (ended : List EndedRun). IsFoundEnd ended c.args.next.state c.args.next.outcome) (sym is) (last_ends old.ended c.args.next))
+    c.push.ensures.ok

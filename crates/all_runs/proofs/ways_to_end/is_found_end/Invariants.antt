@@ -1,0 +1,6 @@
+use Rattle.all_runs.proofs.Growing.{NoneEndsSo}
+use Rattle.all_runs.proofs.ways_to_end.is_found_end.Given as goal
+
+-- none of the earlier ones ends so
+abbrev pub invariant-loop-earlier : goal.invariant-loop-earlier
+invariant-loop-earlier l = NoneEndsSo l.ended l.earlier-index l.run.state l.run.outcome

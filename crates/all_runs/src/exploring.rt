@@ -1,0 +1,202 @@
+//! Exploring: each legal move of each run that is found is taken, until nothing new is found.
+ghost use Rattle.std.specs.Prelude.{◌≡◌, ◌<◌, ◌≤◌, length, slice_get, IfOk, IsTrue, OnOk, Some};
+ghost use Rattle.seg_journal.specs.declared.moves.Move.{Move};
+ghost use Rattle.twe_base.specs.Limits.{Bounds};
+ghost use Rattle.twe_program.specs.Program.{Program};
+ghost use Rattle.twe_program.specs.WellFormed.{IsWellFormed};
+ghost use Rattle.machine_state.specs.Legal.{MayMove};
+ghost use Rattle.machine_state.specs.Moves.{move_result};
+ghost use Rattle.machine_state.specs.Runs.{IsRun};
+ghost use Rattle.state_copies.specs.Lasting.{IsFaultless};
+ghost use Rattle.all_runs.specs.declared.found.FoundRun.{FoundRun};
+ghost use Rattle.all_runs.specs.Explored.{AreFound, CanGoOn, HasEnded, IsClosedBelow, IsExploration, IsFoundEnd, IsKnown, IsSeen};
+ghost use Rattle.all_runs.specs.inner.Growing.{Grows};
+
+use crate::found::{EndedRun, FoundRun};
+use crate::index::{Index, number_of};
+use crate::successor::with_move;
+use crate::ways_to_end::is_found_end;
+use machine_state::{Outcome, State};
+use seg_journal::{Journal, Kind, Limits, Move};
+use state_copies::are_alike;
+use std::alloc::Global;
+use twe_base::{List, Memory};
+use twe_machine::{may, outcome, start};
+use twe_program::Prog;
+
+/// The runs that were found so far.
+#[derive(Debug, Drop)]
+pub(crate) struct Exploration {
+    /// Those that can go on.
+    pub going: List<FoundRun>,
+    /// Those that have ended.
+    pub ended: List<EndedRun>,
+    index: Index,
+}
+
+impl Exploration {
+    /// The run without a move.
+    pub(crate) fn begin(alloc: Global, p: &Prog, lim: Limits) -> Result<Self, Memory>
+        ensures { IfOk result (λ found. IsExploration p.now lim found.going found.ended) }
+    {
+        let mut found = Exploration {
+            going: List::new(alloc),
+            ended: List::new(alloc),
+            index: Index::new(alloc),
+        };
+        let journal = Journal::new(alloc);
+        let state = start(alloc, p, lim)?;
+        found.add(alloc, p, lim, FoundRun { journal, state })?;
+        Ok(found)
+    }
+
+    /// Takes each legal move of each run that is found, as long as no more than `most` runs that can go on are found.
+    pub(crate) fn explore(
+        &mut self,
+        alloc: Global,
+        p: &Prog,
+        lim: Limits,
+        most: usize,
+    ) -> Result<(), Memory>
+        requires { IsExploration p.now lim self.old.going self.old.ended }
+        ensures explored { OnOk result (IsExploration p.now lim self.new.going self.new.ended) }
+        ensures closed { OnOk result (length self.new.going ≤ most
+            → IsClosedBelow p.now lim self.new.going self.new.ended (length self.new.going)) }
+    {
+        for at in 0..most {
+            if at >= self.going.len() {
+                return Ok(());
+            }
+            if self.going.len() > most {
+                return Ok(());
+            }
+            self.take_moves(alloc, p, lim, at)?;
+        }
+        Ok(())
+    }
+
+    /// Takes each legal move of the run at this place.
+    fn take_moves(&mut self, alloc: Global, p: &Prog, lim: Limits, at: usize) -> Result<(), Memory>
+        requires there { at < length self.old.going }
+        requires found { AreFound p.now lim self.old.going self.old.ended }
+        ensures found { OnOk result (AreFound p.now lim self.new.going self.new.ended) }
+        ensures grows { OnOk result (Grows self.old.going self.old.ended self.new.going self.new.ended) }
+        ensures taken { OnOk result ((run : FoundRun) (mv : Move) → slice_get self.old.going at ≡ Some run → MayMove run.state mv
+            → IsKnown self.new.going self.new.ended (move_result p.now lim run.state mv).0) }
+    {
+        let tasks = self.task_count(at);
+        for task in 0..tasks {
+            let admission = Move {
+                kind: Kind::Admit,
+                task,
+            };
+            self.take(alloc, p, lim, at, admission)?;
+            let segment = Move {
+                kind: Kind::Run,
+                task,
+            };
+            self.take(alloc, p, lim, at, segment)?;
+        }
+        Ok(())
+    }
+
+    /// How many tasks the run at this place has.
+    fn task_count(&self, at: usize) -> u32
+        requires { at < length self.now.going }
+        ensures { (run : FoundRun) → slice_get self.now.going at ≡ Some run → result ≡ length run.state.links }
+    {
+        match self.going.get(at) {
+            None => 0,
+            Some(run) => run.state.links.task_count(),
+        }
+    }
+
+    /// Takes this move of the run at this place, if it is legal.
+    fn take(
+        &mut self,
+        alloc: Global,
+        p: &Prog,
+        lim: Limits,
+        at: usize,
+        mv: Move,
+    ) -> Result<(), Memory>
+        requires found { AreFound p.now lim self.old.going self.old.ended }
+        ensures found { OnOk result (AreFound p.now lim self.new.going self.new.ended) }
+        ensures grows { OnOk result (Grows self.old.going self.old.ended self.new.going self.new.ended) }
+        ensures taken { OnOk result ((run : FoundRun) → slice_get self.old.going at ≡ Some run → MayMove run.state mv
+            → IsKnown self.new.going self.new.ended (move_result p.now lim run.state mv).0) }
+    {
+        let _main = p.main;
+        let Some(run) = self.going.get(at) else {
+            return Ok(());
+        };
+        if may(p, &run.state, mv).is_err() {
+            return Ok(());
+        }
+        let next = with_move(alloc, p, lim, run, mv)?;
+        self.add(alloc, p, lim, next)
+    }
+
+    /// Adds a run, unless it is known.
+    fn add(&mut self, alloc: Global, p: &Prog, lim: Limits, next: FoundRun) -> Result<(), Memory>
+        requires found { AreFound p.now lim self.old.going self.old.ended }
+        requires is_run { IsRun p.now lim next.journal next.state }
+        ensures found { OnOk result (AreFound p.now lim self.new.going self.new.ended) }
+        ensures grows { OnOk result (Grows self.old.going self.old.ended self.new.going self.new.ended) }
+        ensures known { OnOk result (IsKnown self.new.going self.new.ended next.state) }
+    {
+        let (_main, _fuel) = (p.main, lim.fuel);
+        match outcome(p, &next.state) {
+            Outcome::Unfinished => self.add_going(alloc, next),
+            outcome => self.add_ended(EndedRun {
+                journal: next.journal,
+                state: next.state,
+                outcome,
+            }),
+        }
+    }
+
+    /// Adds a run that can go on, unless a state like its own was seen.
+    fn add_going(&mut self, alloc: Global, next: FoundRun) -> Result<(), Memory>
+        requires { (p : Program) × (lim : Bounds) × IsWellFormed p × AreFound p lim self.old.going self.old.ended × CanGoOn p lim next }
+        ensures found { OnOk result ((p : Program) (lim : Bounds) → AreFound p lim self.old.going self.old.ended → CanGoOn p lim next
+            → AreFound p lim self.new.going self.new.ended) }
+        ensures grows { OnOk result (Grows self.old.going self.old.ended self.new.going self.new.ended) }
+        ensures seen { OnOk result (IsSeen self.new.going next.state) }
+    {
+        let number = number_of(&next.state);
+        if self.is_seen(&next.state, number) {
+            return Ok(());
+        }
+        self.index.note(alloc, number, self.going.len())?;
+        self.going.push(next)
+    }
+
+    /// Whether a state like this one was noted with this number. Such a one was seen.
+    fn is_seen(&self, st: &State, number: u64) -> bool
+        requires { (p : Program) × (lim : Bounds) × IsFaultless p lim st.now × AreFound p lim self.now.going self.now.ended }
+        ensures { IsTrue result → IsSeen self.now.going st.now }
+    {
+        for place in self.index.places(number) {
+            if let Some(run) = self.going.get(*place) {
+                if are_alike(&run.state, st) {
+                    return true;
+                }
+            }
+        }
+        false
+    }
+
+    /// Adds a run that has ended, unless one has ended so.
+    fn add_ended(&mut self, next: EndedRun) -> Result<(), Memory>
+        ensures found { OnOk result ((p : Program) (lim : Bounds) → AreFound p lim self.old.going self.old.ended → HasEnded p lim next
+            → AreFound p lim self.new.going self.new.ended) }
+        ensures grows { OnOk result (Grows self.old.going self.old.ended self.new.going self.new.ended) }
+        ensures answered { OnOk result (IsFoundEnd self.new.ended next.state next.outcome) }
+    {
+        if is_found_end(self.ended.as_slice(), &next) {
+            return Ok(());
+        }
+        self.ended.push(next)
+    }
+}
