@@ -1,5 +1,5 @@
 -- States that are alike have the same tasks that may move, and the same outcome.
-use Rattle.std.proofs.Common.{◌≡◌, ◌≢◌, ℕ, false, List, Option, None, Some, length, map, refl, sym, ap, ◌∙◌, subst, true, Bool}
+use Rattle.std.proofs.Common.{◌≡◌, ℕ, false, List, Option, None, Some, length, map, refl, sym, ap, ◌∙◌, subst}
 use Rattle.std.specs.Prelude.{slice_get}
 use Rattle.std.proofs.lemmas.List.{length-map}
 use Rattle.std.proofs.lemmas.Option.{slice_get-map}
@@ -13,16 +13,14 @@ use Rattle.wait_graph.specs.declared.tasks.Link.{Link}
 use Rattle.wait_graph.specs.Waiting.{WaitsFor, YieldsTo}
 use Rattle.machine_state.specs.declared.ending.Outcome.{Outcome}
 use Rattle.machine_state.specs.declared.ending.Outcome.TheVariants.{AllDone, Fault, Stuck, Unfinished}
-use Rattle.machine_state.specs.declared.state.FirstFault.{FirstFault}
 use Rattle.machine_state.specs.declared.state.State.{State}
 use Rattle.machine_state.specs.declared.state.TaskRow.{TaskRow}
 use Rattle.machine_state.specs.declared.state.TaskStatus.{TaskStatus}
 use Rattle.machine_state.specs.Legal.{Interfere, MayMove, MayTake}
 use Rattle.machine_state.specs.Rows.{HasStatus, IsRow, is_done_row}
 use Rattle.machine_state.specs.Runs.{AllTasksDone, IsOutcome}
-use Rattle.machine_state.proofs.lists.Places.{got_one}
-use Rattle.all_runs.specs.Explored.{EndsAs, HaveOneResult}
-use Rattle.state_copies.specs.Lasting.{AreAlike, lasting, lasting_row}
+use Rattle.all_runs.specs.Explored.{HaveOneResult}
+use Rattle.state_copies.specs.Lasting.{AreAlike, lasting_row}
 use Rattle.state_copies.proofs.LastingRows.{done_lasts, effects_last, row_if_not, status_lasts}
 
 -- Parts.

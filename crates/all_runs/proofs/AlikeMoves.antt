@@ -3,7 +3,6 @@ use Rattle.std.proofs.Common.{◌≡◌, ◌+◌, ◌++◌, ℕ, ℤ, Bool, true
 use Rattle.std.specs.Prelude.{if◌then◌else◌, slice_get, slice_set}
 use Rattle.effect_sets.specs.declared.effects.Summary.{Summary}
 use Rattle.twe_base.specs.Limits.{Bounds}
-use Rattle.twe_base.specs.declared.fault.FaultKind.{FaultKind}
 use Rattle.twe_base.specs.declared.fault.FaultKind.TheVariants.{TaskLimit}
 use Rattle.twe_base.specs.declared.place.Place.{Place}
 use Rattle.twe_program.specs.Program.{Program}
@@ -20,11 +19,9 @@ use Rattle.seg_meaning.specs.Giving.{given}
 use Rattle.seg_meaning.specs.Segment.{Stopped, segment}
 use Rattle.machine_state.specs.declared.state.State.{State}
 use Rattle.machine_state.specs.declared.state.TaskRow.{TaskRow}
-use Rattle.machine_state.specs.declared.state.TaskStatus.TheVariants.{Made, Enabled}
 use Rattle.machine_state.specs.Legal.{MayMove, MayTake}
-use Rattle.machine_state.specs.Moves.{admitted, admitted_row, awaited_value, done_row, faulted_row, first_fault_of, going_row, joined_child, joined_rows, making_frame, move_result, new_row, parent_of, ran, ready_frame, result_by_kind, settling_result, state_after_asking, state_after_fault, state_after_join, state_after_make, stop_result, stopped_frame}
-use Rattle.machine_state.specs.Rows.{HasStatus, IsRow, is_done_row, is_done_status, row_awaited}
-use Rattle.machine_state.proofs.links.LinksAgree.{status_of}
+use Rattle.machine_state.specs.Moves.{admitted, admitted_row, awaited_value, done_row, faulted_row, first_fault_of, going_row, joined_child, making_frame, move_result, new_row, parent_of, ran, ready_frame, result_by_kind, settling_result, state_after_asking, state_after_fault, state_after_join, state_after_make, stop_result, stopped_frame}
+use Rattle.machine_state.specs.Rows.{IsRow, is_done_row, is_done_status, row_awaited}
 use Rattle.state_copies.specs.Lasting.{AreAlike, lasting, lasting_row}
 use Rattle.all_runs.proofs.Alike.{row_alike}
 use Rattle.state_copies.proofs.LastingRows.{added_once, joined_once, rows_once, set_once, value_once}

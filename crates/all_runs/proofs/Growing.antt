@@ -134,12 +134,12 @@ taken_more p lim a x b y c z st t before first second admission segment mv below
       | inl less ↦ known_stays a x c z (move_result p lim st mv).0 (grows_on a x b y c z first second) (before mv less may)
       | inr high ↦ let same : mv.task ≡ t = omega arith in here mv.kind mv.task same may
     ] where
-  here : (kind : Kind) (task : ℕ) → task ≡ t → MayTake st kind task → IsKnown c z (move_result p lim st (record { kind = kind; task = task })).0
-  here Admit task same legal =
-      subst (λ (n : ℕ). IsKnown c z (move_result p lim st (record { kind = Admit; task = n })).0) (sym same)
-      (known_stays b y c z (move_result p lim st (record { kind = Admit; task = t })).0 second (admission (subst (MayTake st Admit) same legal)))
-  here Run task same legal =
-      subst (λ (n : ℕ). IsKnown c z (move_result p lim st (record { kind = Run; task = n })).0) (sym same) (segment (subst (MayTake st Run) same legal))
+      here : (kind : Kind) (task : ℕ) → task ≡ t → MayTake st kind task → IsKnown c z (move_result p lim st (record { kind = kind; task = task })).0
+      here Admit task same legal =
+          subst (λ (n : ℕ). IsKnown c z (move_result p lim st (record { kind = Admit; task = n })).0) (sym same)
+          (known_stays b y c z (move_result p lim st (record { kind = Admit; task = t })).0 second (admission (subst (MayTake st Admit) same legal)))
+      here Run task same legal =
+          subst (λ (n : ℕ). IsKnown c z (move_result p lim st (record { kind = Run; task = n })).0) (sym same) (segment (subst (MayTake st Run) same legal))
 
 -- the moves of one more run were taken
 pub closed_more : (p : Program) (lim : Bounds) (a : List FoundRun) (x : List EndedRun) (b : List FoundRun) (y : List EndedRun) (at : ℕ)

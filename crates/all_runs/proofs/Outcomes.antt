@@ -1,5 +1,5 @@
 -- A state has one outcome, and a run that has ended stays so, whatever entries come after a fault.
-use Rattle.std.proofs.Common.{◌≡◌, ◌≢◌, ◌++◌, ℕ, List, [], ◌∷◌, Option, None, Some, refl, sym, ap, ◌∙◌}
+use Rattle.std.proofs.Common.{◌≡◌, ◌++◌, ℕ, List, [], ◌∷◌, Option, None, Some, refl, sym, ap, ◌∙◌}
 use Rattle.std.proofs.lemmas.Option.{none-some, same_Some}
 use Rattle.seg_journal.specs.declared.journal.End.{End}
 use Rattle.seg_journal.specs.declared.journal.End.TheVariants as ends
@@ -13,7 +13,6 @@ use Rattle.machine_state.specs.declared.ending.Outcome.{Outcome}
 use Rattle.machine_state.specs.declared.ending.Outcome.TheVariants.{AllDone, Fault, Stuck, Unfinished}
 use Rattle.machine_state.specs.declared.state.FirstFault.{FirstFault}
 use Rattle.machine_state.specs.declared.state.State.{State}
-use Rattle.machine_state.specs.declared.state.TaskStatus.TheVariants.{Made, Enabled}
 use Rattle.machine_state.specs.Changes.{fault_after}
 use Rattle.machine_state.specs.Legal.{MayMove, MayTake}
 use Rattle.machine_state.specs.Moves.{move_result}

@@ -1,6 +1,5 @@
 -- A closed exploration shows how each run that has ended has ended: the induction over its journal.
-use Rattle.std.proofs.Common.{◌≡◌, ◌≢◌, ℕ, List, [], ◌∷◌, Some, length, inl, inr, refl, sym, ap, ◌∙◌, subst}
-use Rattle.std.specs.Prelude.{slice_get}
+use Rattle.std.proofs.Common.{◌≡◌, ◌≢◌, List, [], ◌∷◌, length, inl, inr, refl, sym, ◌∙◌, subst}
 use Rattle.std.proofs.lemmas.Option.{slice_get_within}
 use Rattle.seg_journal.specs.declared.journal.Entry.{Entry}
 use Rattle.seg_journal.specs.declared.moves.Move.{Move}
@@ -16,7 +15,7 @@ use Rattle.machine_state.specs.Runs.{IsOutcome, IsReached, LegalFrom, replayed}
 use Rattle.all_runs.specs.declared.found.EndedRun.{EndedRun}
 use Rattle.all_runs.specs.declared.found.FoundRun.{FoundRun}
 use Rattle.all_runs.specs.AllRuns.{ShowsAllRuns}
-use Rattle.all_runs.specs.Explored.{EndsAs, IsFoundEnd, IsClosedBelow, IsExploration, IsKnown, IsSeen}
+use Rattle.all_runs.specs.Explored.{IsFoundEnd, IsClosedBelow, IsExploration, IsKnown, IsSeen}
 use Rattle.state_copies.specs.Lasting.{AreAlike}
 use Rattle.all_runs.proofs.Alike.{may_alike, one_result, outcome_alike, result_alike}
 use Rattle.all_runs.proofs.AlikeMoves.{move_alike}

@@ -1,5 +1,5 @@
 -- One move more.
-use Rattle.std.proofs.Common.{◌≡◌, ◌++◌, List, [], ◌∷◌, None, Some, ap, ◌∙◌, sym, subst, refl}
+use Rattle.std.proofs.Common.{◌≡◌, ◌++◌, List, [], ◌∷◌, ap, ◌∙◌, sym, subst}
 use Rattle.seg_journal.specs.declared.journal.End.{End}
 use Rattle.seg_journal.specs.declared.journal.Entry.{Entry}
 use Rattle.seg_journal.specs.declared.moves.Move.{Move}
@@ -9,7 +9,7 @@ use Rattle.twe_program.specs.WellFormed.{IsWellFormed}
 use Rattle.machine_state.specs.declared.state.State.{State}
 use Rattle.machine_state.specs.Legal.{MayMove}
 use Rattle.machine_state.specs.Moves.{move_result}
-use Rattle.machine_state.specs.Runs.{IsReached, IsRun, entry_of}
+use Rattle.machine_state.specs.Runs.{IsRun, entry_of}
 use Rattle.machine_state.proofs.replays.Replayed.{run_more}
 use Rattle.state_copies.specs.Lasting.{IsFaultless}
 use Rattle.all_runs.specs.declared.found.FoundRun.{FoundRun}

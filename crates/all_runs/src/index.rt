@@ -85,7 +85,10 @@ fn mixed_frame(number: u64, row: &TaskRow) -> u64 {
         number = mixed_ints(number, body.vars.as_slice());
     }
     for future in row.frame.futures.as_slice() {
-        number = mixed(number, future.map_or(0, |task| u64::from(task).wrapping_add(1)));
+        number = mixed(
+            number,
+            future.map_or(0, |task| u64::from(task).wrapping_add(1)),
+        );
     }
     number
 }

@@ -10,8 +10,11 @@ returns-clause-found c =
     let old = c.args.self.now in
     if_ok c.push.result
     (λ (is : c.push.new.self ≡ old.ended ++ c.args.next ∷ []). λ p lim found over.
-        subst (λ (ended : List EndedRun). AreFound p lim old.going ended) (sym is)
-        (found_with_ended p lim old.going old.ended found c.args.next over ?))
+    subst (λ (ended : List EndedRun). AreFound p lim old.going ended) (sym is)
+    (found_with_ended p lim old.going old.ended found c.args.next over
+    (λ there.
+    let yes = c.is_found_end.ensures.1 (subst (λ (ended : List EndedRun). IsFoundEnd ended c.args.next.state c.args.next.outcome) (sym c.as_slice.ensures) there) in
+    cc (yes, c.if-is_found_end.false))))
     c.push.ensures.ok
 
 pub returns-clause-grows : goal.returns-clause-grows
@@ -19,7 +22,7 @@ returns-clause-grows c =
     let old = c.args.self.now in
     if_ok c.push.result
     (λ (is : c.push.new.self ≡ old.ended ++ c.args.next ∷ []).
-        subst (λ (ended : List EndedRun). Grows old.going old.ended old.going ended) (sym is) (grows_by_ended old.going old.ended c.args.next))
+    subst (λ (ended : List EndedRun). Grows old.going old.ended old.going ended) (sym is) (grows_by_ended old.going old.ended c.args.next))
     c.push.ensures.ok
 
 pub returns-clause-answered : goal.returns-clause-answered
@@ -27,5 +30,5 @@ returns-clause-answered c =
     let old = c.args.self.now in
     if_ok c.push.result
     (λ (is : c.push.new.self ≡ old.ended ++ c.args.next ∷ []).
-        subst (λ (ended : List EndedRun). IsFoundEnd ended c.args.next.state c.args.next.outcome) (sym is) (last_ends old.ended c.args.next))
+    subst (λ (ended : List EndedRun). IsFoundEnd ended c.args.next.state c.args.next.outcome) (sym is) (last_ends old.ended c.args.next))
     c.push.ensures.ok

@@ -10,7 +10,7 @@ returns-clause-found c =
     let old = c.args.self.now in
     if_ok c.push.result
     (λ (is : c.push.new.self ≡ old.going ++ c.args.next ∷ []). λ p lim found can.
-        subst (λ (going : List FoundRun). AreFound p lim going old.ended) (sym is) (found_with_going p lim old.going old.ended found c.args.next can))
+    subst (λ (going : List FoundRun). AreFound p lim going old.ended) (sym is) (found_with_going p lim old.going old.ended found c.args.next can))
     c.push.ensures.ok
 
 pub returns-clause-grows : goal.returns-clause-grows
@@ -18,7 +18,7 @@ returns-clause-grows c =
     let old = c.args.self.now in
     if_ok c.push.result
     (λ (is : c.push.new.self ≡ old.going ++ c.args.next ∷ []).
-        subst (λ (going : List FoundRun). Grows old.going old.ended going old.ended) (sym is) (grows_by_going old.going old.ended c.args.next))
+    subst (λ (going : List FoundRun). Grows old.going old.ended going old.ended) (sym is) (grows_by_going old.going old.ended c.args.next))
     c.push.ensures.ok
 
 pub returns-clause-seen : goal.returns-clause-seen
@@ -26,5 +26,5 @@ returns-clause-seen c =
     let old = c.args.self.now in
     if_ok c.push.result
     (λ (is : c.push.new.self ≡ old.going ++ c.args.next ∷ []).
-        subst (λ (going : List FoundRun). IsSeen going c.args.next.state) (sym is) (last_seen old.going c.args.next))
+    subst (λ (going : List FoundRun). IsSeen going c.args.next.state) (sym is) (last_seen old.going c.args.next))
     c.push.ensures.ok
