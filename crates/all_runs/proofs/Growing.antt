@@ -13,7 +13,9 @@ use Rattle.machine_state.specs.declared.state.State.{State}
 use Rattle.machine_state.specs.Legal.{MayMove, MayTake}
 use Rattle.machine_state.specs.Moves.{move_result}
 use Rattle.machine_state.proofs.lists.Places.{below_there, got_one, put_before, put_cases, put_last}
-use Rattle.all_runs.specs.declared.found.EndedRun.{EndedRun}
+use Rattle.flat_sched.specs.declared.ending.RunEnd.{RunEnd}
+use Rattle.flat_sched.specs.declared.ending.WholeRun.{WholeRun}
+use Rattle.flat_sched.specs.RunEnds.{outcome_of}
 use Rattle.all_runs.specs.declared.found.FoundRun.{FoundRun}
 use Rattle.all_runs.specs.Explored.{AreFound, CanGoOn, EndsAs, HasEnded, HaveOneResult, IsClosedBelow, IsFoundEnd, IsKnown, IsSeen}
 use Rattle.all_runs.specs.inner.Growing.{Grows}
@@ -25,22 +27,22 @@ if_ok (Err e) follows holds = holds
 
 -- Growing.
 
-pub grows_by_none : (going : List FoundRun) (ended : List EndedRun) → Grows going ended going ended
+pub grows_by_none : (going : List FoundRun) (ended : List WholeRun) → Grows going ended going ended
 grows_by_none going ended = record { going_stay = λ at run is. is; ended_stay = λ at run is. is }
 
-pub grows_on : (a : List FoundRun) (x : List EndedRun) (b : List FoundRun) (y : List EndedRun) (c : List FoundRun) (z : List EndedRun) → Grows a x b y → Grows b y c z → Grows a x c z
+pub grows_on : (a : List FoundRun) (x : List WholeRun) (b : List FoundRun) (y : List WholeRun) (c : List FoundRun) (z : List WholeRun) → Grows a x b y → Grows b y c z → Grows a x c z
 grows_on a x b y c z first second = record {
   going_stay = λ at run is. second.going_stay at run (first.going_stay at run is);
   ended_stay = λ at run is. second.ended_stay at run (first.ended_stay at run is);
 }
 
-pub grows_by_going : (going : List FoundRun) (ended : List EndedRun) (next : FoundRun) → Grows going ended (going ++ next ∷ []) ended
+pub grows_by_going : (going : List FoundRun) (ended : List WholeRun) (next : FoundRun) → Grows going ended (going ++ next ∷ []) ended
 grows_by_going going ended next = record { going_stay = λ at run is. put_before going next at run is; ended_stay = λ at run is. is }
 
-pub grows_by_ended : (going : List FoundRun) (ended : List EndedRun) (next : EndedRun) → Grows going ended going (ended ++ next ∷ [])
+pub grows_by_ended : (going : List FoundRun) (ended : List WholeRun) (next : WholeRun) → Grows going ended going (ended ++ next ∷ [])
 grows_by_ended going ended next = record { going_stay = λ at run is. is; ended_stay = λ at run is. put_before ended next at run is }
 
-pub known_stays : (a : List FoundRun) (x : List EndedRun) (b : List FoundRun) (y : List EndedRun) (st : State) → Grows a x b y → IsKnown a x st → IsKnown b y st
+pub known_stays : (a : List FoundRun) (x : List WholeRun) (b : List FoundRun) (y : List WholeRun) (st : State) → Grows a x b y → IsKnown a x st → IsKnown b y st
 known_stays a x b y st grows (inl (at, run, is, alike)) = inl (at, run, grows.going_stay at run is, alike)
 known_stays a x b y st grows (inr (outcome, of_it, (at, run, is, ends))) = inr (outcome, of_it, (at, run, grows.ended_stay at run is, ends))
 
@@ -52,11 +54,11 @@ last_seen going next = (length going, next, put_last going next (length going) r
 one_result_own : (st : State) → HaveOneResult st st
 one_result_own st = record { prints = refl; cells = refl; tasks = refl }
 
-pub last_ends : (ended : List EndedRun) (next : EndedRun) → IsFoundEnd (ended ++ next ∷ []) next.state next.outcome
+pub last_ends : (ended : List WholeRun) (next : WholeRun) → IsFoundEnd (ended ++ next ∷ []) next.state (outcome_of next.end)
 last_ends ended next =
     (length ended, next, put_last ended next (length ended) refl, record { ended_so = refl; result = λ all. one_result_own next.state })
 
-module _ (p : Program) (lim : Bounds) (going : List FoundRun) (ended : List EndedRun) (found : AreFound p lim going ended) where
+module _ (p : Program) (lim : Bounds) (going : List FoundRun) (ended : List WholeRun) (found : AreFound p lim going ended) where
   pub found_with_going : (next : FoundRun) → CanGoOn p lim next → AreFound p lim (going ++ next ∷ []) ended
   found_with_going next can = record {
     going_runs = λ at run is.
@@ -68,7 +70,7 @@ module _ (p : Program) (lim : Bounds) (going : List FoundRun) (ended : List Ende
     apart = found.apart;
   }
 
-  pub found_with_ended : (next : EndedRun) → HasEnded p lim next → ¬ IsFoundEnd ended next.state next.outcome → AreFound p lim going (ended ++ next ∷ [])
+  pub found_with_ended : (next : WholeRun) → HasEnded p lim next → ¬ IsFoundEnd ended next.state (outcome_of next.end) → AreFound p lim going (ended ++ next ∷ [])
   found_with_ended next over new = record {
     going_runs = found.going_runs;
     ended_runs = λ at run is.
@@ -78,8 +80,8 @@ module _ (p : Program) (lim : Bounds) (going : List FoundRun) (ended : List Ende
         ];
     apart = apart_still;
   } where
-    apart_still : (at later : ℕ) (run other : EndedRun) → at < later → slice_get (ended ++ next ∷ []) at ≡ Some run → slice_get (ended ++ next ∷ []) later ≡ Some other
-        → ¬ EndsAs run other.state other.outcome
+    apart_still : (at later : ℕ) (run other : WholeRun) → at < later → slice_get (ended ++ next ∷ []) at ≡ Some run → slice_get (ended ++ next ∷ []) later ≡ Some other
+        → ¬ EndsAs run other.state (outcome_of other.end)
     apart_still at later run other below is also =
         elim (put_cases ended next later other also) [
           | inl before ↦
@@ -92,7 +94,7 @@ module _ (p : Program) (lim : Bounds) (going : List FoundRun) (ended : List Ende
               ]
           | inr last ↦
               elim (put_cases ended next at run is) [
-                | inl first ↦ λ ends. new (subst (λ (x : EndedRun). IsFoundEnd ended x.state x.outcome) (sym last.1) (at, run, first, ends))
+                | inl first ↦ λ ends. new (subst (λ (x : WholeRun). IsFoundEnd ended x.state (outcome_of x.end)) (sym last.1) (at, run, first, ends))
                 | inr same ↦
                     let end : at ≡ length ended = same.0 in
                     let also_end : later ≡ length ended = last.0 in
@@ -103,10 +105,10 @@ module _ (p : Program) (lim : Bounds) (going : List FoundRun) (ended : List Ende
 -- Ends that were looked at.
 
 -- none of the first ones ends so
-abbrev pub NoneEndsSo : List EndedRun → ℕ → State → Outcome → Type 0
-NoneEndsSo ended bound st outcome = (k : ℕ) (run : EndedRun) → k < bound → slice_get ended k ≡ Some run → ¬ EndsAs run st outcome
+abbrev pub NoneEndsSo : List WholeRun → ℕ → State → Outcome → Type 0
+NoneEndsSo ended bound st outcome = (k : ℕ) (run : WholeRun) → k < bound → slice_get ended k ≡ Some run → ¬ EndsAs run st outcome
 
-pub none_more : (ended : List EndedRun) (at : ℕ) (run : EndedRun) (st : State) (outcome : Outcome) → NoneEndsSo ended at st outcome → slice_get ended at ≡ Some run → ¬ EndsAs run st outcome
+pub none_more : (ended : List WholeRun) (at : ℕ) (run : WholeRun) (st : State) (outcome : Outcome) → NoneEndsSo ended at st outcome → slice_get ended at ≡ Some run → ¬ EndsAs run st outcome
     → NoneEndsSo ended (at + 1) st outcome
 none_more ended at run st outcome before is not k other below there =
     elim (cases_lt k at) [
@@ -114,17 +116,17 @@ none_more ended at run st outcome before is not k other below there =
       | inr high ↦
           let same : k ≡ at = omega arith in
           let one : run ≡ other = got_one (slice_get ended at) is (ap (slice_get ended) (sym same) ∙ there) in
-          λ ends. not (subst (λ (x : EndedRun). EndsAs x st outcome) (sym one) ends)
+          λ ends. not (subst (λ (x : WholeRun). EndsAs x st outcome) (sym one) ends)
     ]
 
 -- Moves that were taken.
 
 -- each legal move of the tasks before this one leads to a known state
-abbrev pub TakenBelow : Program → Bounds → List FoundRun → List EndedRun → State → ℕ → Type 0
+abbrev pub TakenBelow : Program → Bounds → List FoundRun → List WholeRun → State → ℕ → Type 0
 TakenBelow p lim going ended st bound = (mv : Move) → mv.task < bound → MayMove st mv → IsKnown going ended (move_result p lim st mv).0
 
 -- both moves of one more task were taken, one after the other
-pub taken_more : (p : Program) (lim : Bounds) (a : List FoundRun) (x : List EndedRun) (b : List FoundRun) (y : List EndedRun) (c : List FoundRun) (z : List EndedRun) (st : State) (t : ℕ)
+pub taken_more : (p : Program) (lim : Bounds) (a : List FoundRun) (x : List WholeRun) (b : List FoundRun) (y : List WholeRun) (c : List FoundRun) (z : List WholeRun) (st : State) (t : ℕ)
     → TakenBelow p lim a x st t → Grows a x b y → Grows b y c z
     → (MayMove st (record { kind = Admit; task = t }) → IsKnown b y (move_result p lim st (record { kind = Admit; task = t })).0)
     → (MayMove st (record { kind = Run; task = t }) → IsKnown c z (move_result p lim st (record { kind = Run; task = t })).0)
@@ -142,7 +144,7 @@ taken_more p lim a x b y c z st t before first second admission segment mv below
           subst (λ (n : ℕ). IsKnown c z (move_result p lim st (record { kind = Run; task = n })).0) (sym same) (segment (subst (MayTake st Run) same legal))
 
 -- the moves of one more run were taken
-pub closed_more : (p : Program) (lim : Bounds) (a : List FoundRun) (x : List EndedRun) (b : List FoundRun) (y : List EndedRun) (at : ℕ)
+pub closed_more : (p : Program) (lim : Bounds) (a : List FoundRun) (x : List WholeRun) (b : List FoundRun) (y : List WholeRun) (at : ℕ)
     → at < length a → IsClosedBelow p lim a x at → Grows a x b y
     → ((run : FoundRun) (mv : Move) → slice_get a at ≡ Some run → MayMove run.state mv → IsKnown b y (move_result p lim run.state mv).0)
     → IsClosedBelow p lim b y (at + 1)

@@ -1,5 +1,5 @@
 -- A state has one outcome, and a run that has ended stays so, whatever entries come after a fault.
-use Rattle.std.proofs.Common.{◌≡◌, ◌++◌, ℕ, List, [], ◌∷◌, Option, None, Some, refl, sym, ap, ◌∙◌}
+use Rattle.std.proofs.Common.{◌≡◌, ◌≢◌, ◌++◌, ℕ, true, false, List, [], ◌∷◌, Option, None, Some, refl, sym, ap, ◌∙◌}
 use Rattle.std.proofs.lemmas.Option.{none-some, same_Some}
 use Rattle.seg_journal.specs.declared.journal.End.{End}
 use Rattle.seg_journal.specs.declared.journal.End.TheVariants as ends
@@ -17,6 +17,9 @@ use Rattle.machine_state.specs.Changes.{fault_after}
 use Rattle.machine_state.specs.Legal.{MayMove, MayTake}
 use Rattle.machine_state.specs.Moves.{move_result}
 use Rattle.machine_state.specs.Runs.{AllTasksDone, IsOutcome, IsReached, LegalFrom, entry_of, replayed}
+use Rattle.flat_sched.specs.declared.ending.RunEnd.{RunEnd}
+use Rattle.flat_sched.specs.declared.ending.RunEnd.TheVariants as ends_of_runs
+use Rattle.flat_sched.specs.RunEnds.{IsRunEnd, is_run_over, outcome_of}
 use Rattle.machine_state.proofs.replays.Replayed.{run_more}
 use Rattle.machine_state.proofs.tasks.LeftAlone.{moves_leave_alone}
 use Rattle.machine_state.proofs.tasks.Movers.{mover_undone}
@@ -78,3 +81,19 @@ none_if_done st mv done may = by_kind mv.kind mv.task may where
   by_kind : (kind : Kind) (t : ℕ) → MayTake st kind t → ⊥
   by_kind Kind.Admit t may = mover_undone st Kind.Admit t may (may.0.0, may.0.1, done t may.0.0 may.0.1)
   by_kind Kind.Run t may = mover_undone st Kind.Run t may (may.0.0, may.0.1, done t may.0.0 may.0.1)
+
+-- The end of a run.
+
+-- a run that is over is not unfinished
+pub not_unfinished : (end : RunEnd) → is_run_over end ≡ true → outcome_of end ≢ Unfinished
+not_unfinished ends_of_runs.AllDone over is = cc (is)
+not_unfinished (ends_of_runs.Fault task kind place) over is = cc (is)
+not_unfinished (ends_of_runs.Stuck cycle) over is = cc (is)
+not_unfinished ends_of_runs.Unfinished over is = cc (over)
+
+-- and another one is
+pub unfinished : (st : State) (end : RunEnd) → is_run_over end ≡ false → IsRunEnd st end → IsOutcome st Unfinished
+unfinished st ends_of_runs.AllDone over is = absurd (cc (over))
+unfinished st (ends_of_runs.Fault task kind place) over is = absurd (cc (over))
+unfinished st (ends_of_runs.Stuck cycle) over is = absurd (cc (over))
+unfinished st ends_of_runs.Unfinished over is = is

@@ -12,30 +12,30 @@ use Rattle.machine_state.specs.declared.state.State.{State}
 use Rattle.machine_state.specs.Legal.{MayMove}
 use Rattle.machine_state.specs.Moves.{move_result, start_of}
 use Rattle.machine_state.specs.Runs.{IsOutcome, IsReached, LegalFrom, replayed}
-use Rattle.all_runs.specs.declared.found.EndedRun.{EndedRun}
+use Rattle.flat_sched.specs.declared.ending.WholeRun.{WholeRun}
 use Rattle.all_runs.specs.declared.found.FoundRun.{FoundRun}
 use Rattle.all_runs.specs.AllRuns.{ShowsAllRuns}
 use Rattle.all_runs.specs.Explored.{IsFoundEnd, IsClosedBelow, IsExploration, IsKnown, IsSeen}
 use Rattle.state_copies.specs.Lasting.{AreAlike}
 use Rattle.all_runs.proofs.Alike.{may_alike, one_result, outcome_alike, result_alike}
 use Rattle.all_runs.proofs.AlikeMoves.{move_alike}
-use Rattle.all_runs.proofs.Outcomes.{fault_stays_on, none_if_done, one_outcome, reached_on}
+use Rattle.all_runs.proofs.Outcomes.{not_unfinished, fault_stays_on, none_if_done, one_outcome, reached_on}
 
 -- what is known of a state is known of one like it
-pub end_alike : (ended : List EndedRun) (st other : State) (outcome : Outcome) → AreAlike st other → IsFoundEnd ended st outcome → IsFoundEnd ended other outcome
+pub end_alike : (ended : List WholeRun) (st other : State) (outcome : Outcome) → AreAlike st other → IsFoundEnd ended st outcome → IsFoundEnd ended other outcome
 end_alike ended st other outcome alike (at, run, is, answers) =
     (at, run, is, record { ended_so = answers.ended_so; result = λ all. one_result run.state st other (answers.result all) (result_alike st other alike) })
 
-known_alike : (going : List FoundRun) (ended : List EndedRun) (st other : State) → AreAlike st other → IsKnown going ended st → IsKnown going ended other
+known_alike : (going : List FoundRun) (ended : List WholeRun) (st other : State) → AreAlike st other → IsKnown going ended st → IsKnown going ended other
 known_alike going ended st other alike (inl (at, run, is, seen)) = inl (at, run, is, seen ∙ alike)
 known_alike going ended st other alike (inr (outcome, is, answered)) =
     inr (outcome, outcome_alike st other outcome alike is, end_alike ended st other outcome alike answered)
 
-module _ (p : Program) (lim : Bounds) (going : List FoundRun) (ended : List EndedRun) (well : IsWellFormed p)
+module _ (p : Program) (lim : Bounds) (going : List FoundRun) (ended : List WholeRun) (well : IsWellFormed p)
     (explored : IsExploration p lim going ended) (closed : IsClosedBelow p lim going ended (length going)) where
   -- an answer is that of a run that has ended
   over : (st : State) (outcome : Outcome) → IsFoundEnd ended st outcome → outcome ≢ Unfinished
-  over st outcome (at, run, is, answers) unfinished = (explored.found.ended_runs at run is).over (answers.ended_so ∙ unfinished)
+  over st outcome (at, run, is, answers) unfinished = not_unfinished run.end (explored.found.ended_runs at run is).over (answers.ended_so ∙ unfinished)
 
   -- after an end there is none but that one
   ends : (st : State) (entries : List Entry) (first outcome : Outcome) → IsReached p lim st → LegalFrom p lim st entries → IsOutcome st first → IsFoundEnd ended st first

@@ -6,19 +6,20 @@ use Rattle.twe_program.specs.Program.{Program}
 use Rattle.machine_state.specs.declared.ending.Outcome.{Outcome}
 use Rattle.machine_state.specs.declared.ending.Outcome.TheVariants.{Unfinished}
 use Rattle.machine_state.specs.Runs.{IsOutcome, Legal, state_after}
-use Rattle.all_runs.specs.declared.found.EndedRun.{EndedRun}
+use Rattle.flat_sched.specs.declared.ending.WholeRun.{WholeRun}
+use Rattle.flat_sched.specs.RunEnds.{outcome_of}
 use Rattle.all_runs.specs.Explored.{EndsAs, HasEnded, IsFoundEnd}
 
 -- These are runs of the program under the limits, each with the legal journal that leads to it. Each has ended, and no two in one
 -- way.
-pub record ShowsRuns (p : Program) (lim : Bounds) (ended : List EndedRun) : Type 0 where
-  pub each : (at : ℕ) (run : EndedRun) → slice_get ended at ≡ Some run → HasEnded p lim run
-  pub apart : (at later : ℕ) (run other : EndedRun) → at < later → slice_get ended at ≡ Some run → slice_get ended later ≡ Some other
-      → ¬ EndsAs run other.state other.outcome
+pub record ShowsRuns (p : Program) (lim : Bounds) (ended : List WholeRun) : Type 0 where
+  pub each : (at : ℕ) (run : WholeRun) → slice_get ended at ≡ Some run → HasEnded p lim run
+  pub apart : (at later : ℕ) (run other : WholeRun) → at < later → slice_get ended at ≡ Some run → slice_get ended later ≡ Some other
+      → ¬ EndsAs run other.state (outcome_of other.end)
 
 -- Each run of the program under the limits that has ended, by whatever legal journal it was made, has ended as one of these: with
 -- the same outcome and, if all tasks are done, with the same result.
-abbrev pub ShowsAllRuns : Program → Bounds → List EndedRun → Type 0
+abbrev pub ShowsAllRuns : Program → Bounds → List WholeRun → Type 0
 ShowsAllRuns p lim ended =
     (journal : List Entry) (outcome : Outcome) → Legal p lim journal → IsOutcome (state_after p lim journal) outcome
     → outcome ≢ Unfinished → IsFoundEnd ended (state_after p lim journal) outcome

@@ -1,5 +1,5 @@
 -- What was explored of the runs of a program: the runs that were found.
-use Rattle.std.specs.Prelude.{◌≡◌, ◌≢◌, ◌<◌, ◌⊎◌, ℕ, List, length, Some, slice_get}
+use Rattle.std.specs.Prelude.{◌≡◌, ◌<◌, ◌⊎◌, ℕ, List, length, Some, true, slice_get}
 use Rattle.seg_journal.specs.declared.moves.Move.{Move}
 use Rattle.twe_base.specs.Limits.{Bounds}
 use Rattle.twe_program.specs.Program.{Program}
@@ -9,7 +9,8 @@ use Rattle.machine_state.specs.declared.state.State.{State}
 use Rattle.machine_state.specs.Legal.{MayMove}
 use Rattle.machine_state.specs.Moves.{move_result, start_of}
 use Rattle.machine_state.specs.Runs.{IsOutcome, IsRun}
-use Rattle.all_runs.specs.declared.found.EndedRun.{EndedRun}
+use Rattle.flat_sched.specs.declared.ending.WholeRun.{WholeRun}
+use Rattle.flat_sched.specs.RunEnds.{IsRunEnd, is_run_over, outcome_of}
 use Rattle.all_runs.specs.declared.found.FoundRun.{FoundRun}
 use Rattle.state_copies.specs.Lasting.{AreAlike}
 
@@ -19,10 +20,10 @@ pub record CanGoOn (p : Program) (lim : Bounds) (run : FoundRun) : Type 0 where
   pub unfinished : IsOutcome run.state Unfinished
 
 -- The run is one of the program, and it has ended so: all tasks are done, or it is stuck, or some task has met a fault.
-pub record HasEnded (p : Program) (lim : Bounds) (run : EndedRun) : Type 0 where
+pub record HasEnded (p : Program) (lim : Bounds) (run : WholeRun) : Type 0 where
   pub is_run : IsRun p lim run.journal run.state
-  pub outcome : IsOutcome run.state run.outcome
-  pub over : run.outcome ≢ Unfinished
+  pub end : IsRunEnd run.state run.end
+  pub over : is_run_over run.end ≡ true
 
 -- The numbers that were printed, the values of the cells and the number of tasks are the same.
 pub record HaveOneResult (st other : State) : Type 0 where
@@ -32,8 +33,8 @@ pub record HaveOneResult (st other : State) : Type 0 where
 
 -- The run has ended as one with this outcome in this state has: with the same outcome, which for a fault has the task that met
 -- it, its kind and its place; and if all tasks are done, with the same result.
-pub record EndsAs (run : EndedRun) (st : State) (outcome : Outcome) : Type 0 where
-  pub ended_so : run.outcome ≡ outcome
+pub record EndsAs (run : WholeRun) (st : State) (outcome : Outcome) : Type 0 where
+  pub ended_so : outcome_of run.end ≡ outcome
   pub result : outcome ≡ AllDone → HaveOneResult run.state st
 
 -- a run that was found has come to a state that is like this one
@@ -41,28 +42,28 @@ abbrev pub IsSeen : List FoundRun → State → Type 0
 IsSeen going st = (at : ℕ) × (run : FoundRun) × (slice_get going at ≡ Some run) × AreAlike run.state st
 
 -- a run that was found has ended as one with this outcome in this state has
-abbrev pub IsFoundEnd : List EndedRun → State → Outcome → Type 0
-IsFoundEnd ended st outcome = (at : ℕ) × (run : EndedRun) × (slice_get ended at ≡ Some run) × EndsAs run st outcome
+abbrev pub IsFoundEnd : List WholeRun → State → Outcome → Type 0
+IsFoundEnd ended st outcome = (at : ℕ) × (run : WholeRun) × (slice_get ended at ≡ Some run) × EndsAs run st outcome
 
 -- a run that has come to this state is known: it can go on, and a state like this one was seen; or it has ended, and one that was
 -- found has ended so too
-abbrev pub IsKnown : List FoundRun → List EndedRun → State → Type 0
+abbrev pub IsKnown : List FoundRun → List WholeRun → State → Type 0
 IsKnown going ended st = IsSeen going st ⊎ ((outcome : Outcome) × IsOutcome st outcome × IsFoundEnd ended st outcome)
 
 -- These runs were found: some that can go on, and some that have ended, no two of them in one way.
-pub record AreFound (p : Program) (lim : Bounds) (going : List FoundRun) (ended : List EndedRun) : Type 0 where
+pub record AreFound (p : Program) (lim : Bounds) (going : List FoundRun) (ended : List WholeRun) : Type 0 where
   pub going_runs : (at : ℕ) (run : FoundRun) → slice_get going at ≡ Some run → CanGoOn p lim run
-  pub ended_runs : (at : ℕ) (run : EndedRun) → slice_get ended at ≡ Some run → HasEnded p lim run
-  pub apart : (at later : ℕ) (run other : EndedRun) → at < later → slice_get ended at ≡ Some run → slice_get ended later ≡ Some other
-      → ¬ EndsAs run other.state other.outcome
+  pub ended_runs : (at : ℕ) (run : WholeRun) → slice_get ended at ≡ Some run → HasEnded p lim run
+  pub apart : (at later : ℕ) (run other : WholeRun) → at < later → slice_get ended at ≡ Some run → slice_get ended later ≡ Some other
+      → ¬ EndsAs run other.state (outcome_of other.end)
 
 -- These runs were found, and the run without a move is known.
-pub record IsExploration (p : Program) (lim : Bounds) (going : List FoundRun) (ended : List EndedRun) : Type 0 where
+pub record IsExploration (p : Program) (lim : Bounds) (going : List FoundRun) (ended : List WholeRun) : Type 0 where
   pub found : AreFound p lim going ended
   pub start : IsKnown going ended (start_of p lim)
 
 -- each legal move of a run that was found, of those before this place, leads to a run that is known
-abbrev pub IsClosedBelow : Program → Bounds → List FoundRun → List EndedRun → ℕ → Type 0
+abbrev pub IsClosedBelow : Program → Bounds → List FoundRun → List WholeRun → ℕ → Type 0
 IsClosedBelow p lim going ended bound =
     (at : ℕ) (run : FoundRun) (mv : Move) → at < bound → slice_get going at ≡ Some run → MayMove run.state mv
     → IsKnown going ended (move_result p lim run.state mv).0

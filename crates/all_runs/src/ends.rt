@@ -3,18 +3,18 @@ ghost use Rattle.std.specs.Prelude.{◌≤◌, ◌↔◌, IfOk, IsTrue};
 ghost use Rattle.all_runs.specs.AllRuns.{ShowsAllRuns, ShowsRuns};
 
 use crate::exploring::Exploration;
-use crate::found::EndedRun;
 use crate::laws::closed_explorations_show_all_runs;
+use flat_sched::WholeRun;
 use seg_journal::Limits;
 use std::alloc::Global;
 use twe_base::{List, Memory};
 use twe_program::Prog;
 
 /// The ends that were found.
-#[derive(Debug, Drop)]
+#[derive(Drop)]
 pub struct FoundEnds {
     /// Runs that have ended, no two in one way, in the order in which they were found.
-    pub ended: List<EndedRun>,
+    pub ended: List<WholeRun>,
     /// How many states of runs that can go on were found.
     pub states: usize,
     /// Whether each run ends in one of these ways.

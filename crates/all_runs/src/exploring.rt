@@ -7,30 +7,32 @@ ghost use Rattle.twe_program.specs.WellFormed.{IsWellFormed};
 ghost use Rattle.machine_state.specs.Legal.{MayMove};
 ghost use Rattle.machine_state.specs.Moves.{move_result};
 ghost use Rattle.machine_state.specs.Runs.{IsRun};
+ghost use Rattle.flat_sched.specs.RunEnds.{outcome_of};
 ghost use Rattle.state_copies.specs.Lasting.{IsFaultless};
 ghost use Rattle.all_runs.specs.declared.found.FoundRun.{FoundRun};
 ghost use Rattle.all_runs.specs.Explored.{AreFound, CanGoOn, HasEnded, IsClosedBelow, IsExploration, IsFoundEnd, IsKnown, IsSeen};
 ghost use Rattle.all_runs.specs.inner.Growing.{Grows};
 
-use crate::found::{EndedRun, FoundRun};
+use crate::found::FoundRun;
 use crate::index::{Index, number_of};
 use crate::successor::with_move;
 use crate::ways_to_end::is_found_end;
-use machine_state::{Outcome, State};
+use flat_sched::{WholeRun, run_end};
+use machine_state::State;
 use seg_journal::{Journal, Kind, Limits, Move};
 use state_copies::are_alike;
 use std::alloc::Global;
 use twe_base::{List, Memory};
-use twe_machine::{may, outcome, start};
+use twe_machine::{may, start};
 use twe_program::Prog;
 
 /// The runs that were found so far.
-#[derive(Debug, Drop)]
+#[derive(Drop)]
 pub(crate) struct Exploration {
     /// Those that can go on.
     pub going: List<FoundRun>,
     /// Those that have ended.
-    pub ended: List<EndedRun>,
+    pub ended: List<WholeRun>,
     index: Index,
 }
 
@@ -146,14 +148,15 @@ impl Exploration {
         ensures known { OnOk result (IsKnown self.new.going self.new.ended next.state) }
     {
         let (_main, _fuel) = (p.main, lim.fuel);
-        match outcome(p, &next.state) {
-            Outcome::Unfinished => self.add_going(alloc, next),
-            outcome => self.add_ended(EndedRun {
+        let end = run_end(alloc, p, &next.state)?;
+        if end.is_over() {
+            return self.add_ended(WholeRun {
                 journal: next.journal,
                 state: next.state,
-                outcome,
-            }),
+                end,
+            });
         }
+        self.add_going(alloc, next)
     }
 
     /// Adds a run that can go on, unless a state like its own was seen.
@@ -188,11 +191,11 @@ impl Exploration {
     }
 
     /// Adds a run that has ended, unless one has ended so.
-    fn add_ended(&mut self, next: EndedRun) -> Result<(), Memory>
+    fn add_ended(&mut self, next: WholeRun) -> Result<(), Memory>
         ensures found { OnOk result ((p : Program) (lim : Bounds) → AreFound p lim self.old.going self.old.ended → HasEnded p lim next
             → AreFound p lim self.new.going self.new.ended) }
         ensures grows { OnOk result (Grows self.old.going self.old.ended self.new.going self.new.ended) }
-        ensures answered { OnOk result (IsFoundEnd self.new.ended next.state next.outcome) }
+        ensures answered { OnOk result (IsFoundEnd self.new.ended next.state (outcome_of next.end)) }
     {
         if is_found_end(self.ended.as_slice(), &next) {
             return Ok(());

@@ -13,5 +13,5 @@ mod successor;
 mod ways_to_end;
 
 pub use ends::{FoundEnds, find_ends};
-pub use found::{EndedRun, FoundRun};
+pub use found::FoundRun;
 pub use laws::closed_explorations_show_all_runs;

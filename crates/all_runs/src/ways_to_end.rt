@@ -1,14 +1,15 @@
 //! Whether two runs have ended in one way.
 ghost use Rattle.std.specs.Prelude.{◌↔◌, IsTrue};
+ghost use Rattle.flat_sched.specs.RunEnds.{outcome_of};
 ghost use Rattle.all_runs.specs.Explored.{EndsAs, HaveOneResult, IsFoundEnd};
 
-use crate::found::EndedRun;
+use flat_sched::WholeRun;
 use machine_state::{Outcome, State};
 use state_copies::same_ints;
 
 /// Whether one of these runs has ended as this one has.
-pub(crate) fn is_found_end(ended: &[EndedRun], run: &EndedRun) -> bool
-    ensures { IsTrue result ↔ IsFoundEnd ended.now run.now.state run.now.outcome }
+pub(crate) fn is_found_end(ended: &[WholeRun], run: &WholeRun) -> bool
+    ensures { IsTrue result ↔ IsFoundEnd ended.now run.now.state (outcome_of run.now.end) }
 {
     for earlier in ended {
         if ends_as(earlier, run) {
@@ -19,13 +20,14 @@ pub(crate) fn is_found_end(ended: &[EndedRun], run: &EndedRun) -> bool
 }
 
 /// Whether a run has ended as the other has: with the same outcome and, if all tasks are done, with the same result.
-pub(crate) fn ends_as(run: &EndedRun, other: &EndedRun) -> bool
-    ensures { IsTrue result ↔ EndsAs run.now other.now.state other.now.outcome }
+fn ends_as(run: &WholeRun, other: &WholeRun) -> bool
+    ensures { IsTrue result ↔ EndsAs run.now other.now.state (outcome_of other.now.end) }
 {
-    if run.outcome != other.outcome {
+    let outcome = other.end.outcome();
+    if run.end.outcome() != outcome {
         return false;
     }
-    match other.outcome {
+    match outcome {
         Outcome::AllDone => have_one_result(&run.state, &other.state),
         Outcome::Fault { .. } => true,
         Outcome::Stuck => true,

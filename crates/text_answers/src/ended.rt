@@ -18,7 +18,7 @@ use twe_program::Prog;
 use twe_report::{fault_text, prints_text, result_text, stuck_text, unfinished_text};
 
 /// The answer to a run under these limits. The numbers that entries after the first fault printed are not in it.
-pub(crate) fn answer_ended(
+pub fn answer_ended(
     alloc: Global,
     p: &Prog,
     lim: Limits,

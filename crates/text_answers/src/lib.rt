@@ -23,7 +23,7 @@ pub use answering::{answer_text, run_alone};
 pub use asked::{AskedRun, Report};
 pub use book::{Book, Reply};
 pub use counting::line_of;
-pub use ended::answer_done;
+pub use ended::{answer_done, answer_ended};
 pub use input::{cut_at_mark, cut_input, has_input};
 pub use journal_answers::answer_with_journal;
 pub use laws::{

@@ -1,5 +1,6 @@
 use Rattle.std.proofs.Common.{◌≡◌, ◌++◌, List, [], ◌∷◌, sym, subst}
-use Rattle.all_runs.specs.declared.found.EndedRun.{EndedRun}
+use Rattle.flat_sched.specs.declared.ending.WholeRun.{WholeRun}
+use Rattle.flat_sched.specs.RunEnds.{outcome_of}
 use Rattle.all_runs.specs.Explored.{AreFound, IsFoundEnd}
 use Rattle.all_runs.specs.inner.Growing.{Grows}
 use Rattle.all_runs.proofs.Growing.{found_with_ended, grows_by_ended, if_ok, last_ends}
@@ -10,10 +11,10 @@ returns-clause-found c =
     let old = c.args.self.now in
     if_ok c.push.result
     (λ (is : c.push.new.self ≡ old.ended ++ c.args.next ∷ []). λ p lim found over.
-    subst (λ (ended : List EndedRun). AreFound p lim old.going ended) (sym is)
+    subst (λ (ended : List WholeRun). AreFound p lim old.going ended) (sym is)
     (found_with_ended p lim old.going old.ended found c.args.next over
     (λ there.
-    let yes = c.is_found_end.ensures.1 (subst (λ (ended : List EndedRun). IsFoundEnd ended c.args.next.state c.args.next.outcome) (sym c.as_slice.ensures) there) in
+    let yes = c.is_found_end.ensures.1 (subst (λ (ended : List WholeRun). IsFoundEnd ended c.args.next.state (outcome_of c.args.next.end)) (sym c.as_slice.ensures) there) in
     cc (yes, c.if-is_found_end.false))))
     c.push.ensures.ok
 
@@ -22,7 +23,7 @@ returns-clause-grows c =
     let old = c.args.self.now in
     if_ok c.push.result
     (λ (is : c.push.new.self ≡ old.ended ++ c.args.next ∷ []).
-    subst (λ (ended : List EndedRun). Grows old.going old.ended old.going ended) (sym is) (grows_by_ended old.going old.ended c.args.next))
+    subst (λ (ended : List WholeRun). Grows old.going old.ended old.going ended) (sym is) (grows_by_ended old.going old.ended c.args.next))
     c.push.ensures.ok
 
 pub returns-clause-answered : goal.returns-clause-answered
@@ -30,5 +31,5 @@ returns-clause-answered c =
     let old = c.args.self.now in
     if_ok c.push.result
     (λ (is : c.push.new.self ≡ old.ended ++ c.args.next ∷ []).
-    subst (λ (ended : List EndedRun). IsFoundEnd ended c.args.next.state c.args.next.outcome) (sym is) (last_ends old.ended c.args.next))
+    subst (λ (ended : List WholeRun). IsFoundEnd ended c.args.next.state (outcome_of c.args.next.end)) (sym is) (last_ends old.ended c.args.next))
     c.push.ensures.ok
