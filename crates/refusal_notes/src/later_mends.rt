@@ -4,7 +4,7 @@ ghost use Rattle.refusal_notes.specs.LaterMends.{later_mend, later_mend_at, late
 
 use crate::edits::{edited, place_offset};
 use crate::mends::{Mend, Mends};
-use crate::spots::{CutText, Mark, Spot, token_is, next_word, spots_behind};
+use crate::spots::{CutText, Mark, Spot, next_word, spots_behind, token_is};
 use std::alloc::Global;
 use twe_base::{Bytes, Memory, Place};
 use twe_report::push_place;

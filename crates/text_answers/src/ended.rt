@@ -18,12 +18,7 @@ use twe_program::Prog;
 use twe_report::{fault_text, prints_text, result_text, stuck_text, unfinished_text};
 
 /// The answer to a run under these limits. The numbers that entries after the first fault printed are not in it.
-pub fn answer_ended(
-    alloc: Global,
-    p: &Prog,
-    lim: Limits,
-    run: &WholeRun,
-) -> Result<Answer, Memory>
+pub fn answer_ended(alloc: Global, p: &Prog, lim: Limits, run: &WholeRun) -> Result<Answer, Memory>
     requires run { IsRun p.now lim run.now.journal run.now.state }
     requires end { IsRunEnd run.now.state run.now.end }
     ensures { IfOk result (AnswersRun p.now run.now.state (state_after p.now lim (counted run.now.journal)).prints
