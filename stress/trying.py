@@ -9,7 +9,7 @@ import subprocess
 import sys
 
 sys.path.insert(0, str(pathlib.Path(__file__).resolve().parent.parent / 'checks'))
-from repository import MARK, TOP, Case, binary, cases_in, cases_of, words_if_none  # noqa: E402, F401
+from repository import MARK, TESTS, TOP, Case, binary, cases_in, cases_of, words_if_none  # noqa: E402, F401
 
 # What takes the place of the status of a program that did not end in time.
 NO_END = 'no end'
