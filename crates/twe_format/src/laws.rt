@@ -1,8 +1,9 @@
 //! The laws of answers.
-ghost use Rattle.std.specs.Prelude.{◌≡◌, ℕ, List};
+ghost use Rattle.std.specs.Prelude.{◌≡◌, ◌↔◌, ℕ, List, []};
 ghost use Rattle.twe_io.specs.declared.answer.Answer.{Answer};
 ghost use Rattle.twe_format.specs.declared.words.FormatRequest.{FormatRequest as AnyRequest};
 ghost use Rattle.twe_format.specs.Answers.{FormatDue};
+ghost use Rattle.twe_format.specs.Differences.{differing_lines};
 
 use twe_frontend::one_refusal;
 
@@ -13,3 +14,8 @@ pub fn one_format_answer()
 {
     one_refusal();
 }
+
+/// No line differs between a text and its layout exactly if both are the same text.
+pub fn lines_tell_texts_apart()
+    ensures { (text laid : List ℕ) → (differing_lines text laid ≡ []) ↔ (text ≡ laid) }
+{}
