@@ -1,0 +1,85 @@
+-- What the program answers, and why.
+use Rattle.std.specs.Prelude.{◌≡◌, ◌<◌, ◌≤◌, ◌-◌, ◌↔◌, ℕ, Bool, true, false, List, Option, None, Some, length, slice_get, IsTrue, if◌then◌else◌}
+use Rattle.std.specs.List.{list_any}
+use Rattle.twe_base.specs.Limits.{Bounds}
+use Rattle.twe_program.specs.Program.{Program}
+use Rattle.twe_frontend.specs.Accepted.{Accepted, IsRefusal}
+use Rattle.twe_frontend.specs.declared.refusal.Refusal.{Refusal}
+use Rattle.machine_state.specs.Runs.{counted, state_after}
+use Rattle.flat_sched.specs.declared.ending.RunEnd.{RunEnd}
+use Rattle.flat_sched.specs.declared.ending.RunEnd.TheVariants as run_ends
+use Rattle.flat_sched.specs.declared.ending.WholeRun.{WholeRun}
+use Rattle.flat_sched.specs.RunEnds.{outcome_of}
+use Rattle.all_runs.specs.declared.ends.FoundEnds.{FoundEnds}
+use Rattle.all_runs.specs.AllRuns.{ShowsAllRuns, ShowsRuns}
+use Rattle.twe_io.specs.declared.answer.Answer.{Answer}
+use Rattle.twe_io.specs.declared.status.Status.{Status}
+use Rattle.twe_io.specs.declared.status.Status.TheVariants.{Done, Refused, Usage, Fault, Stuck, Unfinished}
+use Rattle.twe_io.specs.Ends.{Ends, EndsTell, SourceTells}
+use Rattle.twe_io.specs.Answers.{IsAnswered, on_err, on_out}
+use Rattle.twe_report.specs.Causes.{TextCause}
+use Rattle.twe_report.specs.Texts.{journal_part_text, refusal_text}
+use Rattle.text_answers.specs.Answers.{AnswersRun}
+use Rattle.twe_explore.specs.declared.words.Wish.{Wish}
+use Rattle.twe_explore.specs.Texts.{explore_usage_text, no_result_text, results_text}
+use Rattle.twe_explore.specs.Words.{wish_of}
+
+-- What was found of the runs of a program: runs that have ended, each with its journal, no two in one way. If all were looked at, each
+-- run that has ended, by whatever legal journal, has ended as one of them.
+pub record HaveEnds (p : Program) (lim : Bounds) (most : ℕ) (found : FoundEnds) : Type 0 where
+  pub shows : ShowsRuns p lim found.ended
+  pub all : IsTrue found.whole → ShowsAllRuns p lim found.ended
+  pub limit : IsTrue found.whole ↔ (found.states ≤ most)
+
+-- this is what `twe run` answers if it makes this run
+abbrev pub AnswersFor : Program → Bounds → WholeRun → Answer → Type 0
+AnswersFor p lim run answer =
+    AnswersRun p run.state (state_after p lim (counted run.journal)).prints (outcome_of run.end) answer
+
+-- these are the answers for the runs, in order
+pub record AreAnswersFor (p : Program) (lim : Bounds) (runs : List WholeRun) (answers : List Answer) : Type 0 where
+  pub count : length answers ≡ length runs
+  pub each : (at : ℕ) (run : WholeRun) (answer : Answer) → slice_get runs at ≡ Some run → slice_get answers at ≡ Some answer
+      → AnswersFor p lim run answer
+
+-- whether a run has ended with a fault
+abbrev pub is_fault_end : RunEnd → Bool
+is_fault_end (run_ends.Fault task kind place) = true
+is_fault_end _ = false
+
+-- whether it is stuck
+abbrev pub is_stuck_end : RunEnd → Bool
+is_stuck_end (run_ends.Stuck cycle) = true
+is_stuck_end _ = false
+
+-- the status: whether not all runs were looked at; or else whether one faults; or else whether one gets stuck
+abbrev pub status_of : Bool → List WholeRun → Status
+status_of whole runs =
+    if whole then (if list_any (λ run. is_fault_end run.end) runs then Fault else if list_any (λ run. is_stuck_end run.end) runs then Stuck else Done)
+    else Unfinished
+
+-- The answer to a text that was read.
+pub data ExploreDue (wish : Wish) (text : List ℕ) : Answer → Type 0 where
+  -- the text is refused, as `twe run` says
+  refused : (r : Refusal) → IsRefusal text r → ExploreDue wish text (on_err Refused (refusal_text r))
+  -- the results are listed, each with what `twe run` would write for it
+  listed : (p : Program) (found : FoundEnds) (answers : List Answer) → wish.journal ≡ None → Accepted text p
+      → HaveEnds p wish.lim wish.states found → AreAnswersFor p wish.lim found.ended answers
+      → ExploreDue wish text (on_out (status_of found.whole found.ended) (results_text found.states found.whole answers))
+  -- the journal of one result is written, as `twe run --journal` does
+  journal_of : (p : Program) (found : FoundEnds) (number : ℕ) (run : WholeRun) → wish.journal ≡ Some number → Accepted text p
+      → HaveEnds p wish.lim wish.states found → slice_get found.ended (number - 1) ≡ Some run
+      → ExploreDue wish text (on_out Done (journal_part_text wish.lim run.journal))
+  -- there are fewer results
+  no_result : (p : Program) (found : FoundEnds) (number : ℕ) → wish.journal ≡ Some number → Accepted text p
+      → HaveEnds p wish.lim wish.states found → slice_get found.ended (number - 1) ≡ None
+      → ExploreDue wish text (on_err Usage (no_result_text number))
+
+-- why the program gives an answer, before it writes anything
+abbrev pub ExploreCause : {S : Type 0} → SourceTells S → List (List ℕ) → S → S → Answer → Type 0
+ExploreCause tells words = TextCause wish_of explore_usage_text ExploreDue tells words
+
+-- what a call of the program comes to: an answer that has its cause is written; or memory runs out, and nothing is written
+abbrev pub AnswersExplore : {S O E : Type 0} → EndsTell S O E → List (List ℕ) → Ends S O E → Ends S O E → Status
+    → Type 0
+AnswersExplore tells words before after status = IsAnswered tells (ExploreCause tells.src words) before after status

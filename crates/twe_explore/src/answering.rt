@@ -1,0 +1,89 @@
+//! The answer to a text.
+ghost use Rattle.std.specs.Prelude.{◌≡◌, IfOk, None, Some};
+ghost use Rattle.twe_frontend.specs.Accepted.{Accepted};
+ghost use Rattle.twe_explore.specs.Answers.{ExploreDue, HaveEnds};
+
+use crate::results::{answers_for, status_of};
+use crate::text::{no_result_text, results_text};
+use crate::words::Wish;
+use all_runs::{FoundEnds, find_ends};
+use std::alloc::Global;
+use twe_base::Memory;
+use twe_frontend::{FrontFail, read_program};
+use twe_io::{Answer, Status};
+use twe_program::Prog;
+use twe_report::{journal_part, refusal_text};
+
+/// The answer to a text.
+pub(crate) fn answer_text(alloc: Global, wish: &Wish, text: &[u8]) -> Result<Answer, Memory>
+    ensures { IfOk result (ExploreDue wish.now text.now) }
+{
+    match read_program(alloc, text) {
+        Ok(p) => answer_accepted(alloc, wish, text, &p),
+        Err(FrontFail::Refused(refusal)) => {
+            let line = refusal_text(alloc, refusal)?;
+            Ok(Answer::on_err(alloc, Status::Refused, line))
+        }
+        Err(FrontFail::OutOfMemory(memory)) => Err(memory),
+    }
+}
+
+/// The answer to a text that is accepted and has this program.
+fn answer_accepted(alloc: Global, wish: &Wish, text: &[u8], p: &Prog) -> Result<Answer, Memory>
+    requires { Accepted text.now p.now }
+    ensures { IfOk result (ExploreDue wish.now text.now) }
+{
+    let found = find_ends(alloc, p, wish.lim, wish.states as usize)?;
+    match wish.journal {
+        None => answer_all(alloc, wish, text, p, &found),
+        Some(number) => answer_one(alloc, wish, text, p, &found, number),
+    }
+}
+
+/// The answer that lists all results.
+fn answer_all(
+    alloc: Global,
+    wish: &Wish,
+    text: &[u8],
+    p: &Prog,
+    found: &FoundEnds,
+) -> Result<Answer, Memory>
+    requires accepted { Accepted text.now p.now }
+    requires found { HaveEnds p.now wish.now.lim wish.now.states found.now }
+    requires wanted { wish.now.journal ≡ None }
+    ensures { IfOk result (ExploreDue wish.now text.now) }
+{
+    let _ = text;
+    let runs = found.ended.as_slice();
+    let answers = answers_for(alloc, p, wish.lim, runs)?;
+    let lines = results_text(alloc, found.states, found.whole, answers.as_slice())?;
+    Ok(Answer::on_out(alloc, status_of(found.whole, runs), lines))
+}
+
+/// The answer that has the journal of the result of this number, counted from 1.
+fn answer_one(
+    alloc: Global,
+    wish: &Wish,
+    text: &[u8],
+    p: &Prog,
+    found: &FoundEnds,
+    number: u64,
+) -> Result<Answer, Memory>
+    requires accepted { Accepted text.now p.now }
+    requires found { HaveEnds p.now wish.now.lim wish.now.states found.now }
+    requires wanted { wish.now.journal ≡ Some number }
+    ensures { IfOk result (ExploreDue wish.now text.now) }
+{
+    let _ = text;
+    let _main = p.main;
+    match found.ended.get(number.saturating_sub(1) as usize) {
+        None => {
+            let line = no_result_text(alloc, number)?;
+            Ok(Answer::on_err(alloc, Status::Usage, line))
+        }
+        Some(run) => {
+            let lines = journal_part(alloc, &run.journal, wish.lim)?;
+            Ok(Answer::on_out(alloc, Status::Done, lines))
+        }
+    }
+}
