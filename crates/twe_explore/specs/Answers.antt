@@ -20,9 +20,9 @@ use Rattle.twe_io.specs.Answers.{IsAnswered, on_err, on_out}
 use Rattle.twe_report.specs.Causes.{TextCause}
 use Rattle.twe_report.specs.Texts.{journal_part_text, refusal_text}
 use Rattle.text_answers.specs.Answers.{AnswersRun}
-use Rattle.twe_explore.specs.declared.words.Wish.{Wish}
+use Rattle.twe_explore.specs.declared.words.Question.{Question}
 use Rattle.twe_explore.specs.Texts.{explore_usage_text, no_result_text, results_text}
-use Rattle.twe_explore.specs.Words.{wish_of}
+use Rattle.twe_explore.specs.Words.{question_of}
 
 -- What was found of the runs of a program: runs that have ended, each with its journal, no two in one way. If all were looked at, each
 -- run that has ended, by whatever legal journal, has ended as one of them.
@@ -53,31 +53,31 @@ is_stuck_end (run_ends.Stuck cycle) = true
 is_stuck_end _ = false
 
 -- the status: whether not all runs were looked at; or else whether one faults; or else whether one gets stuck
-abbrev pub status_of : Bool → List WholeRun → Status
-status_of whole runs =
+abbrev pub results_status : Bool → List WholeRun → Status
+results_status whole runs =
     if whole then (if list_any (λ run. is_fault_end run.end) runs then Fault else if list_any (λ run. is_stuck_end run.end) runs then Stuck else Done)
     else Unfinished
 
 -- The answer to a text that was read.
-pub data ExploreDue (wish : Wish) (text : List ℕ) : Answer → Type 0 where
+pub data ExploreDue (question : Question) (text : List ℕ) : Answer → Type 0 where
   -- the text is refused, as `twe run` says
-  refused : (r : Refusal) → IsRefusal text r → ExploreDue wish text (on_err Refused (refusal_text r))
+  refused : (r : Refusal) → IsRefusal text r → ExploreDue question text (on_err Refused (refusal_text r))
   -- the results are listed, each with what `twe run` would write for it
-  listed : (p : Program) (found : FoundEnds) (answers : List Answer) → wish.journal ≡ None → Accepted text p
-      → HaveEnds p wish.lim wish.states found → AreAnswersFor p wish.lim found.ended answers
-      → ExploreDue wish text (on_out (status_of found.whole found.ended) (results_text found.states found.whole answers))
+  listed : (p : Program) (found : FoundEnds) (answers : List Answer) → question.journal ≡ None → Accepted text p
+      → HaveEnds p question.lim question.states found → AreAnswersFor p question.lim found.ended answers
+      → ExploreDue question text (on_out (results_status found.whole found.ended) (results_text found.states found.whole answers))
   -- the journal of one result is written, as `twe run --journal` does
-  journal_of : (p : Program) (found : FoundEnds) (number : ℕ) (run : WholeRun) → wish.journal ≡ Some number → Accepted text p
-      → HaveEnds p wish.lim wish.states found → slice_get found.ended (number - 1) ≡ Some run
-      → ExploreDue wish text (on_out Done (journal_part_text wish.lim run.journal))
+  journal_of : (p : Program) (found : FoundEnds) (number : ℕ) (run : WholeRun) → question.journal ≡ Some number → Accepted text p
+      → HaveEnds p question.lim question.states found → slice_get found.ended (number - 1) ≡ Some run
+      → ExploreDue question text (on_out Done (journal_part_text question.lim run.journal))
   -- there are fewer results
-  no_result : (p : Program) (found : FoundEnds) (number : ℕ) → wish.journal ≡ Some number → Accepted text p
-      → HaveEnds p wish.lim wish.states found → slice_get found.ended (number - 1) ≡ None
-      → ExploreDue wish text (on_err Usage (no_result_text number))
+  no_result : (p : Program) (found : FoundEnds) (number : ℕ) → question.journal ≡ Some number → Accepted text p
+      → HaveEnds p question.lim question.states found → slice_get found.ended (number - 1) ≡ None
+      → ExploreDue question text (on_err Usage (no_result_text number))
 
 -- why the program gives an answer, before it writes anything
 abbrev pub ExploreCause : {S : Type 0} → SourceTells S → List (List ℕ) → S → S → Answer → Type 0
-ExploreCause tells words = TextCause wish_of explore_usage_text ExploreDue tells words
+ExploreCause tells words = TextCause question_of explore_usage_text ExploreDue tells words
 
 -- what a call of the program comes to: an answer that has its cause is written; or memory runs out, and nothing is written
 abbrev pub AnswersExplore : {S O E : Type 0} → EndsTell S O E → List (List ℕ) → Ends S O E → Ends S O E → Status

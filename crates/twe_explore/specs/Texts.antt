@@ -18,8 +18,8 @@ extent_text whole results =
     if whole then (if results == 1 then codes ", all: every run gives this" else codes ", all") else codes ", not all"
 
 -- `3 results on 12 states, all`
-abbrev pub head_text : ℕ → ℕ → Bool → List ℕ
-head_text results states whole =
+abbrev pub extent_line : ℕ → ℕ → Bool → List ℕ
+extent_line results states whole =
     line (count_text results ++ (codes " on " ++ (decimal states ++ (codes " states" ++ extent_text whole results))))
 
 -- `result 1: status 0`, and below it what `twe run` would write, on out and then on err
@@ -35,7 +35,7 @@ result_parts number (answer ∷ answers) = result_part number answer ++ result_p
 
 -- all of it
 abbrev pub results_text : ℕ → Bool → List Answer → List ℕ
-results_text states whole answers = head_text (length answers) states whole ++ result_parts 1 answers
+results_text states whole answers = extent_line (length answers) states whole ++ result_parts 1 answers
 
 -- there are fewer results than the one whose journal is wanted
 abbrev pub no_result_text : ℕ → List ℕ

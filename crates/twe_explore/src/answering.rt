@@ -3,9 +3,9 @@ ghost use Rattle.std.specs.Prelude.{◌≡◌, IfOk, None, Some};
 ghost use Rattle.twe_frontend.specs.Accepted.{Accepted};
 ghost use Rattle.twe_explore.specs.Answers.{ExploreDue, HaveEnds};
 
-use crate::results::{answers_for, status_of};
+use crate::results::{answers_for, results_status};
 use crate::text::{no_result_text, results_text};
-use crate::words::Wish;
+use crate::words::Question;
 use all_runs::{FoundEnds, find_ends};
 use std::alloc::Global;
 use twe_base::Memory;
@@ -15,11 +15,11 @@ use twe_program::Prog;
 use twe_report::{journal_part, refusal_text};
 
 /// The answer to a text.
-pub(crate) fn answer_text(alloc: Global, wish: &Wish, text: &[u8]) -> Result<Answer, Memory>
-    ensures { IfOk result (ExploreDue wish.now text.now) }
+pub(crate) fn answer_text(alloc: Global, question: &Question, text: &[u8]) -> Result<Answer, Memory>
+    ensures { IfOk result (ExploreDue question.now text.now) }
 {
     match read_program(alloc, text) {
-        Ok(p) => answer_accepted(alloc, wish, text, &p),
+        Ok(p) => answer_accepted(alloc, question, text, &p),
         Err(FrontFail::Refused(refusal)) => {
             let line = refusal_text(alloc, refusal)?;
             Ok(Answer::on_err(alloc, Status::Refused, line))
@@ -29,50 +29,55 @@ pub(crate) fn answer_text(alloc: Global, wish: &Wish, text: &[u8]) -> Result<Ans
 }
 
 /// The answer to a text that is accepted and has this program.
-fn answer_accepted(alloc: Global, wish: &Wish, text: &[u8], p: &Prog) -> Result<Answer, Memory>
+fn answer_accepted(
+    alloc: Global,
+    question: &Question,
+    text: &[u8],
+    p: &Prog,
+) -> Result<Answer, Memory>
     requires { Accepted text.now p.now }
-    ensures { IfOk result (ExploreDue wish.now text.now) }
+    ensures { IfOk result (ExploreDue question.now text.now) }
 {
-    let found = find_ends(alloc, p, wish.lim, wish.states as usize)?;
-    match wish.journal {
-        None => answer_all(alloc, wish, text, p, &found),
-        Some(number) => answer_one(alloc, wish, text, p, &found, number),
+    let found = find_ends(alloc, p, question.lim, question.states as usize)?;
+    match question.journal {
+        None => answer_all(alloc, question, text, p, &found),
+        Some(number) => answer_one(alloc, question, text, p, &found, number),
     }
 }
 
 /// The answer that lists all results.
 fn answer_all(
     alloc: Global,
-    wish: &Wish,
+    question: &Question,
     text: &[u8],
     p: &Prog,
     found: &FoundEnds,
 ) -> Result<Answer, Memory>
     requires accepted { Accepted text.now p.now }
-    requires found { HaveEnds p.now wish.now.lim wish.now.states found.now }
-    requires wanted { wish.now.journal ≡ None }
-    ensures { IfOk result (ExploreDue wish.now text.now) }
+    requires found { HaveEnds p.now question.now.lim question.now.states found.now }
+    requires wanted { question.now.journal ≡ None }
+    ensures { IfOk result (ExploreDue question.now text.now) }
 {
     let _ = text;
     let runs = found.ended.as_slice();
-    let answers = answers_for(alloc, p, wish.lim, runs)?;
+    let answers = answers_for(alloc, p, question.lim, runs)?;
     let lines = results_text(alloc, found.states, found.whole, answers.as_slice())?;
-    Ok(Answer::on_out(alloc, status_of(found.whole, runs), lines))
+    Ok(Answer::on_out(alloc, results_status(found.whole, runs), lines))
 }
 
 /// The answer that has the journal of the result of this number, counted from 1.
 fn answer_one(
     alloc: Global,
-    wish: &Wish,
+    question: &Question,
     text: &[u8],
     p: &Prog,
     found: &FoundEnds,
     number: u64,
 ) -> Result<Answer, Memory>
     requires accepted { Accepted text.now p.now }
-    requires found { HaveEnds p.now wish.now.lim wish.now.states found.now }
-    requires wanted { wish.now.journal ≡ Some number }
-    ensures { IfOk result (ExploreDue wish.now text.now) }
+    requires found { HaveEnds p.now question.now.lim question.now.states found.now }
+    requires wanted { question.now.journal ≡ Some number }
+    ensures { IfOk result (ExploreDue question.now text.now) }
 {
     let _ = text;
     let _main = p.main;
@@ -82,7 +87,7 @@ fn answer_one(
             Ok(Answer::on_err(alloc, Status::Usage, line))
         }
         Some(run) => {
-            let lines = journal_part(alloc, &run.journal, wish.lim)?;
+            let lines = journal_part(alloc, &run.journal, question.lim)?;
             Ok(Answer::on_out(alloc, Status::Done, lines))
         }
     }

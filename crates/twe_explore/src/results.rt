@@ -2,7 +2,7 @@
 ghost use Rattle.std.specs.Prelude.{◌≡◌, IfOk};
 ghost use Rattle.std.specs.List.{list_any};
 ghost use Rattle.all_runs.specs.AllRuns.{ShowsRuns};
-ghost use Rattle.twe_explore.specs.Answers.{AreAnswersFor, is_fault_end, is_stuck_end, status_of};
+ghost use Rattle.twe_explore.specs.Answers.{AreAnswersFor, is_fault_end, is_stuck_end, results_status};
 
 use flat_sched::{RunEnd, WholeRun};
 use std::alloc::Global;
@@ -29,8 +29,8 @@ pub(crate) fn answers_for(
 }
 
 /// The status of the answer.
-pub(crate) fn status_of(whole: bool, runs: &[WholeRun]) -> Status
-    ensures { result ≡ status_of whole runs.now }
+pub(crate) fn results_status(whole: bool, runs: &[WholeRun]) -> Status
+    ensures { result ≡ results_status whole runs.now }
 {
     if !whole {
         return Status::Unfinished;

@@ -1,6 +1,6 @@
 //! The lines that are written.
 ghost use Rattle.std.specs.Prelude.{◌≡◌, ◌++◌, decimal, IfOk, OnOk};
-ghost use Rattle.twe_explore.specs.Texts.{count_text, extent_text, explore_usage_text, head_text, result_part, result_parts};
+ghost use Rattle.twe_explore.specs.Texts.{count_text, extent_text, explore_usage_text, extent_line, result_part, result_parts};
 ghost use Rattle.twe_explore.specs.Texts as texts;
 
 use itoa::Buffer;
@@ -61,7 +61,7 @@ fn push_extent(text: &mut Bytes, whole: bool, results: u64) -> Result<(), Memory
 
 /// Appends the first line.
 fn push_head(text: &mut Bytes, results: u64, states: u64, whole: bool) -> Result<(), Memory>
-    ensures { OnOk result (text.new ≡ text.old ++ head_text results states whole) }
+    ensures { OnOk result (text.new ≡ text.old ++ extent_line results states whole) }
 {
     push_count(text, results)?;
     text.push_all(b" on ")?;

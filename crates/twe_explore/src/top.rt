@@ -2,7 +2,7 @@
 ghost use Rattle.twe_explore.specs.Answers.{AnswersExplore};
 ghost use Rattle.twe_io.specs.Ends.{ends, ends_tell, sink, source};
 
-use crate::words::Wish;
+use crate::words::Question;
 use std::alloc::Global;
 use twe_base::Word;
 use twe_io::{Sink, Source, Status};
@@ -23,5 +23,5 @@ pub fn explore_top<S: Source, O: Sink, E: Sink>(
         (sink E.written E.faults E.write_gives))
         words.now (ends src.old out.old err.old) (ends src.new out.new err.new) result }
 {
-    run_text_program::<Wish, S, O, E>(alloc, words, src, out, err)
+    run_text_program::<Question, S, O, E>(alloc, words, src, out, err)
 }

@@ -1,6 +1,6 @@
 //! What the words after the program's name ask for.
 ghost use Rattle.std.specs.Prelude.{◌≡◌, IfSome};
-ghost use Rattle.twe_explore.specs.Words.{IsWithin, asked_after, asked_by, asked_first, number_for, place_after, setting_named, setting_set, was_given, wish_of};
+ghost use Rattle.twe_explore.specs.Words.{IsInRange, settings_after, settings_in, no_settings, setting_number, kind_after, setting_named, setting_set, was_given, question_of};
 
 use command_line::number_between;
 use twe_base::{Limits, Word};
@@ -8,12 +8,12 @@ use twe_base::{Limits, Word};
 /// How many states may be found, if the words don't say so.
 const DEFAULT_STATES: u64 = 100_000;
 
-/// The largest number of states that may be asked for, and of a result.
+/// The largest number of states that may be settings for, and of a result.
 const MOST: u64 = 1_000_000_000;
 
-/// What is asked for.
+/// What is settings for.
 #[derive(Clone, Copy, Debug)]
-pub struct Wish {
+pub struct Question {
     /// How many states of runs that can go on may be found.
     pub states: u64,
     /// The limits of each run.
@@ -37,7 +37,7 @@ pub enum Setting {
 
 /// What a word is, by those before it.
 #[derive(Clone, Copy, Debug, PartialEq, Eq)]
-pub enum Place {
+pub enum WordKind {
     /// An option.
     Option,
     /// The number of an option.
@@ -48,7 +48,7 @@ pub enum Place {
 
 /// What the words up to one ask for.
 #[derive(Clone, Copy, Debug)]
-pub struct Asked {
+pub struct Settings {
     /// How many states may be found, if it is given.
     pub states: Option<u64>,
     /// Whether it is given how much fuel each task has.
@@ -60,20 +60,20 @@ pub struct Asked {
     /// The result whose journal is wanted, if it is given.
     pub journal: Option<u64>,
     /// What the next word is.
-    pub next: Place,
+    pub next: WordKind,
 }
 
 /// What no words ask for.
-fn asked_first() -> Asked
-    ensures { result ≡ asked_first }
+fn no_settings() -> Settings
+    ensures { result ≡ no_settings }
 {
-    Asked {
+    Settings {
         states: None,
         fuel: false,
         tasks: false,
         lim: Limits::default(),
         journal: None,
-        next: Place::Option,
+        next: WordKind::Option,
     }
 }
 
@@ -91,21 +91,21 @@ fn setting_named(word: &Word) -> Option<Setting>
 }
 
 /// Whether a setting was given before.
-fn was_given(asked: &Asked, setting: Setting) -> bool
-    ensures { result ≡ was_given asked.now setting }
+fn was_given(settings: &Settings, setting: Setting) -> bool
+    ensures { result ≡ was_given settings.now setting }
 {
     match setting {
-        Setting::States => asked.states.is_some(),
-        Setting::Fuel => asked.fuel,
-        Setting::Tasks => asked.tasks,
-        Setting::Journal => asked.journal.is_some(),
+        Setting::States => settings.states.is_some(),
+        Setting::Fuel => settings.fuel,
+        Setting::Tasks => settings.tasks,
+        Setting::Journal => settings.journal.is_some(),
     }
 }
 
 /// The number that a word is for a setting, if it is one in the setting's range.
-fn number_for(setting: Setting, word: &Word) -> Option<u64>
-    ensures number { result ≡ number_for setting word.now }
-    ensures within { IfSome result (IsWithin setting) }
+fn setting_number(setting: Setting, word: &Word) -> Option<u64>
+    ensures number { result ≡ setting_number setting word.now }
+    ensures within { IfSome result (IsInRange setting) }
 {
     match setting {
         Setting::States => number_between(1, MOST, word.as_bytes()),
@@ -116,79 +116,79 @@ fn number_for(setting: Setting, word: &Word) -> Option<u64>
 }
 
 /// Sets a setting. An option may come next.
-fn set(asked: &mut Asked, setting: Setting, number: u64)
-    requires { IsWithin setting number }
-    ensures { asked.new ≡ setting_set asked.old setting number }
+fn set(settings: &mut Settings, setting: Setting, number: u64)
+    requires { IsInRange setting number }
+    ensures { settings.new ≡ setting_set settings.old setting number }
 {
-    let lim = asked.lim;
-    asked.next = Place::Option;
+    let lim = settings.lim;
+    settings.next = WordKind::Option;
     match setting {
-        Setting::States => asked.states = Some(number),
+        Setting::States => settings.states = Some(number),
         Setting::Fuel => {
-            asked.fuel = true;
-            asked.lim = Limits::new(number, lim.tasks);
+            settings.fuel = true;
+            settings.lim = Limits::new(number, lim.tasks);
         }
         Setting::Tasks => {
-            asked.tasks = true;
-            asked.lim = Limits::new(lim.fuel, number as u32);
+            settings.tasks = true;
+            settings.lim = Limits::new(lim.fuel, number as u32);
         }
-        Setting::Journal => asked.journal = Some(number),
+        Setting::Journal => settings.journal = Some(number),
     }
 }
 
 /// What a word is that comes after this option.
-fn place_after(asked: &Asked, word: &Word) -> Place
-    ensures { result ≡ place_after asked.now word.now }
+fn kind_after(settings: &Settings, word: &Word) -> WordKind
+    ensures { result ≡ kind_after settings.now word.now }
 {
     match setting_named(word) {
-        None => Place::Nowhere,
+        None => WordKind::Nowhere,
         Some(setting) => {
-            if was_given(asked, setting) {
-                Place::Nowhere
+            if was_given(settings, setting) {
+                WordKind::Nowhere
             } else {
-                Place::Number(setting)
+                WordKind::Number(setting)
             }
         }
     }
 }
 
 /// Takes one word.
-fn take_word(asked: &mut Asked, word: &Word)
-    ensures { asked.new ≡ asked_after asked.old word.now }
+fn take_word(settings: &mut Settings, word: &Word)
+    ensures { settings.new ≡ settings_after settings.old word.now }
 {
-    match asked.next {
-        Place::Option => asked.next = place_after(asked, word),
-        Place::Number(setting) => match number_for(setting, word) {
-            None => asked.next = Place::Nowhere,
-            Some(number) => set(asked, setting, number),
+    match settings.next {
+        WordKind::Option => settings.next = kind_after(settings, word),
+        WordKind::Number(setting) => match setting_number(setting, word) {
+            None => settings.next = WordKind::Nowhere,
+            Some(number) => set(settings, setting, number),
         },
-        Place::Nowhere => {}
+        WordKind::Nowhere => {}
     }
 }
 
 /// What the words ask for, one after another.
-fn asked_by(words: &[Word]) -> Asked
-    ensures { result ≡ asked_by words.now }
+fn settings_in(words: &[Word]) -> Settings
+    ensures { result ≡ settings_in words.now }
 {
-    let mut asked = asked_first();
+    let mut settings = no_settings();
     for word in words {
-        take_word(&mut asked, word);
+        take_word(&mut settings, word);
     }
-    asked
+    settings
 }
 
 /// What the words ask for, or `None` if they ask for nothing that the program does.
-pub(crate) fn wish_by(words: &[Word]) -> Option<Wish>
-    ensures { result ≡ wish_of words.now }
+pub(crate) fn question_in(words: &[Word]) -> Option<Question>
+    ensures { result ≡ question_of words.now }
 {
-    let asked = asked_by(words);
-    match asked.next {
-        Place::Option => Some(Wish {
-            states: asked.states.unwrap_or(DEFAULT_STATES),
-            lim: asked.lim,
-            journal: asked.journal,
+    let settings = settings_in(words);
+    match settings.next {
+        WordKind::Option => Some(Question {
+            states: settings.states.unwrap_or(DEFAULT_STATES),
+            lim: settings.lim,
+            journal: settings.journal,
         }),
-        Place::Number(_) => None,
-        Place::Nowhere => None,
+        WordKind::Number(_) => None,
+        WordKind::Nowhere => None,
     }
 }

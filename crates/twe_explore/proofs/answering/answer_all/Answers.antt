@@ -1,7 +1,7 @@
 use Rattle.std.proofs.Common.{List, sym, ap, ◌∙◌, subst}
 use Rattle.flat_sched.specs.declared.ending.WholeRun.{WholeRun}
 use Rattle.twe_io.specs.Answers.{on_out}
-use Rattle.twe_explore.specs.Answers.{AreAnswersFor, ExploreDue, status_of}
+use Rattle.twe_explore.specs.Answers.{AreAnswersFor, ExploreDue, results_status}
 use Rattle.twe_explore.specs.Texts.{results_text}
 use Rattle.twe_explore.proofs.answering.answer_all.Goals as goal
 
@@ -9,11 +9,11 @@ use Rattle.twe_explore.proofs.answering.answer_all.Goals as goal
 pub returns : goal.returns
 returns c =
     let found = c.args.found.now in
-    let wish = c.args.wish.now in
+    let question = c.args.question.now in
     let answers = c.in_ok-answers.answers in
-    let given : AreAnswersFor c.args.p.now wish.lim found.ended answers =
-    subst (λ (runs : List WholeRun). AreAnswersFor c.args.p.now wish.lim runs answers) c.as_slice-runs.ensures c.in_ok-answers.ensures in
+    let given : AreAnswersFor c.args.p.now question.lim found.ended answers =
+    subst (λ (runs : List WholeRun). AreAnswersFor c.args.p.now question.lim runs answers) c.as_slice-runs.ensures c.in_ok-answers.ensures in
     let lines = c.in_ok-lines.ensures ∙ ap (results_text found.states found.whole) c.as_slice.ensures in
-    let status = c.status_of.ensures ∙ ap (status_of found.whole) c.as_slice-runs.ensures in
-    subst (ExploreDue wish c.args.text.now) (sym (c.on_out.ensures ∙ (λ i. on_out (status i) (lines i))))
+    let status = c.results_status.ensures ∙ ap (results_status found.whole) c.as_slice-runs.ensures in
+    subst (ExploreDue question c.args.text.now) (sym (c.on_out.ensures ∙ (λ i. on_out (status i) (lines i))))
     (ExploreDue.listed c.args.p.now found answers c.requires.wanted c.requires.accepted c.requires.found given)
