@@ -90,7 +90,7 @@ _tw() {
   local current=${COMP_WORDS[COMP_CWORD]} words='' word given
   COMPREPLY=()
   if ((COMP_CWORD == 1)) || [[ $COMP_CWORD == 2 && ${COMP_WORDS[1]} == help ]]; then
-    words='check run why keep advise draw annotate watch help'
+    words='check run why keep explore advise draw annotate fmt watch help'
   elif ((COMP_CWORD == 2)); then
     mapfile -t COMPREPLY < <(compgen -f -- "$current")
     return
@@ -101,6 +101,8 @@ _tw() {
     case ${COMP_WORDS[1]} in
       run) words=' --workers --fuel --tasks --journal ' ;;
       why) words=' --all --run --fuel --tasks ' ;;
+      explore) words=' --states --fuel --tasks --journal ' ;;
+      fmt) words=' --check ' ;;
       keep | advise) words=' --workers --fuel --tasks ' ;;
       draw) words=' order trace --workers --fuel --tasks ' ;;
       annotate) ((COMP_CWORD > 3)) || words='write compare matrix' ;;
