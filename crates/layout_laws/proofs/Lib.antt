@@ -1,3 +1,4 @@
+pub mod AlikeRules
 pub mod AllowedBytes
 pub mod KeptTree
 pub mod MovedExpressions

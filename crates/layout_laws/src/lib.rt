@@ -3,4 +3,7 @@
 
 mod laws;
 
-pub use laws::{layout_keeps_the_tree, one_layout, only_memory_stops_a_cut, same_kinds_same_tree};
+pub use laws::{
+    layout_keeps_the_tree, one_layout, only_memory_stops_a_cut, same_kinds_fail_alike,
+    same_kinds_same_tree,
+};
