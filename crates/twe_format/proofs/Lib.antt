@@ -1,2 +1,3 @@
+pub mod AcceptedAlike
 pub mod OneAnswer
 pub mod SameLines

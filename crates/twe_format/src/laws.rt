@@ -1,11 +1,18 @@
-//! The laws of answers.
+//! Laws of answers, and of a text and its layout.
 ghost use Rattle.std.specs.Prelude.{◌≡◌, ◌↔◌, ℕ, List, []};
+ghost use Rattle.twe_ast.specs.declared.item.Ast.{Ast};
+ghost use Rattle.twe_program.specs.Program.{Program};
+ghost use Rattle.text_layout.specs.InLayout.{IsInLayout};
+ghost use Rattle.twe_frontend.specs.Accepted.{Accepted, IsTreeOf};
+ghost use Rattle.summary_texts.specs.paste_laws.places.Places.{SameButPlaces};
 ghost use Rattle.twe_io.specs.declared.answer.Answer.{Answer};
 ghost use Rattle.twe_format.specs.declared.words.FormatRequest.{FormatRequest as AnyRequest};
 ghost use Rattle.twe_format.specs.Answers.{FormatDue};
 ghost use Rattle.twe_format.specs.Differences.{differing_lines};
 
+use summary_texts::paste_laws::places::places_do_not_matter;
 use twe_frontend::one_refusal;
+use twe_parser::one_tree;
 
 /// What `twe_format` writes for a text, and its status, are functions of the words and the text.
 pub fn one_format_answer()
@@ -19,3 +26,15 @@ pub fn one_format_answer()
 pub fn lines_tell_texts_apart()
     ensures { (text laid : List ℕ) → (differing_lines text laid ≡ []) ↔ (text ≡ laid) }
 {}
+
+/// A text that has a tree is accepted exactly if it is accepted in its layout. Then both programs are equal except for the places
+/// in them.
+pub fn layouts_are_accepted_alike()
+    ensures laid { (text laid : List ℕ) (p : Program) → Accepted text p → IsInLayout text laid
+        → (q : Program) × Accepted laid q × SameButPlaces p q }
+    ensures text { (text laid : List ℕ) (tree : Ast) (q : Program) → IsTreeOf text tree → IsInLayout text laid → Accepted laid q
+        → (p : Program) × Accepted text p × SameButPlaces q p }
+{
+    one_tree();
+    places_do_not_matter();
+}
