@@ -85,6 +85,21 @@ _twe_explain() {
   done
 }
 
+_twe_explore() {
+  local current=${COMP_WORDS[COMP_CWORD]} words=' --states --fuel --tasks --journal ' word given
+  COMPREPLY=()
+  case ${COMP_WORDS[COMP_CWORD - 1]} in
+    --*) return ;; # a number stands here
+  esac
+  # Each option may be given once.
+  for given in "${COMP_WORDS[@]:1:COMP_CWORD-1}"; do
+    words=${words/ $given / }
+  done
+  for word in $words; do
+    [[ $word != "$current"* ]] || COMPREPLY+=("$word")
+  done
+}
+
 # A command, a file, and what the command takes.
 _tw() {
   local current=${COMP_WORDS[COMP_CWORD]} words='' word given
@@ -130,4 +145,5 @@ complete -F _twe_format twe_format
 complete -F _twe_draw twe_draw
 complete -F _twe_annotate twe_annotate
 complete -F _twe_explain twe_explain
+complete -F _twe_explore twe_explore
 complete -F _twe_other twe_infer twe_opt twe_profile

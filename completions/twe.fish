@@ -56,6 +56,11 @@ complete -c twe_explain -n 'not __fish_contains_opt all' -l all -d 'each rule on
 complete -c twe_explain -n 'not __fish_contains_opt run' -l run -d 'run the text, and say why the run goes no further'
 complete -c twe_explain -n 'not __fish_contains_opt fuel' -l fuel -x -d 'how much fuel each task has'
 complete -c twe_explain -n 'not __fish_contains_opt tasks' -l tasks -x -d 'how many tasks may be made'
+complete -c twe_explore -f
+complete -c twe_explore -n 'not __fish_contains_opt states' -l states -x -d 'how many states may be found'
+complete -c twe_explore -n 'not __fish_contains_opt fuel' -l fuel -x -d 'how much fuel each task has'
+complete -c twe_explore -n 'not __fish_contains_opt tasks' -l tasks -x -d 'how many tasks may be made'
+complete -c twe_explore -n 'not __fish_contains_opt journal' -l journal -x -d 'write the journal of this result alone'
 complete -c twe_format -f
 complete -c twe_format -n __fish_use_subcommand -a --check -d 'the lines that are not in the layout'
 complete -c twe_infer -f
