@@ -14,7 +14,7 @@ use Rattle.all_runs.specs.declared.ends.FoundEnds.{FoundEnds}
 use Rattle.all_runs.specs.AllRuns.{ShowsAllRuns, ShowsRuns}
 use Rattle.twe_io.specs.declared.answer.Answer.{Answer}
 use Rattle.twe_io.specs.declared.status.Status.{Status}
-use Rattle.twe_io.specs.declared.status.Status.TheVariants.{Done, Refused, Usage, Fault, Stuck, Unfinished}
+use Rattle.twe_io.specs.declared.status.Status.TheVariants.{Done, Refused, Fault, Stuck, Unfinished}
 use Rattle.twe_io.specs.Ends.{Ends, EndsTell, SourceTells}
 use Rattle.twe_io.specs.Answers.{IsAnswered, on_err, on_out}
 use Rattle.twe_report.specs.Causes.{TextCause}
@@ -73,7 +73,7 @@ pub data ExploreDue (question : Question) (text : List ℕ) : Answer → Type 0 
   -- there are fewer results
   no_result : (p : Program) (found : FoundEnds) (number : ℕ) → question.journal ≡ Some number → Accepted text p
       → HaveEnds p question.lim question.states found → slice_get found.ended (number - 1) ≡ None
-      → ExploreDue question text (on_err Usage (no_result_text number))
+      → ExploreDue question text (on_err Refused (no_result_text number))
 
 -- why the program gives an answer, before it writes anything
 abbrev pub ExploreCause : {S : Type 0} → SourceTells S → List (List ℕ) → S → S → Answer → Type 0

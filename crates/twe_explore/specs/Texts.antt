@@ -39,4 +39,4 @@ results_text states whole answers = extent_line (length answers) states whole ++
 
 -- there are fewer results than the one whose journal is wanted
 abbrev pub no_result_text : ℕ → List ℕ
-no_result_text number = line (codes "no result " ++ decimal number)
+no_result_text number = line (codes "no result: " ++ decimal number)

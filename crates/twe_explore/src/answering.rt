@@ -84,7 +84,7 @@ fn answer_one(
     match found.ended.get(number.saturating_sub(1) as usize) {
         None => {
             let line = no_result_text(alloc, number)?;
-            Ok(Answer::on_err(alloc, Status::Usage, line))
+            Ok(Answer::on_err(alloc, Status::Refused, line))
         }
         Some(run) => {
             let lines = journal_part(alloc, &run.journal, question.lim)?;

@@ -22,7 +22,7 @@ pub(crate) fn usage_text(alloc: Global) -> Result<Bytes, Memory>
 pub(crate) fn no_result_text(alloc: Global, number: u64) -> Result<Bytes, Memory>
     ensures { IfOk result (λ text. text ≡ texts.no_result_text number) }
 {
-    let mut text = Bytes::from_slice(alloc, b"no result ")?;
+    let mut text = Bytes::from_slice(alloc, b"no result: ")?;
     push_number(&mut text, number)?;
     text.push(b'\n')?;
     Ok(text)

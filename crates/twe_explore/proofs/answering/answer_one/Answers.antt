@@ -1,6 +1,6 @@
 use Rattle.std.proofs.Common.{◌≡◌, ◌-◌, None, Some, sym, ap, ◌∙◌, subst}
 use Rattle.std.specs.Prelude.{slice_get}
-use Rattle.twe_io.specs.declared.status.Status.TheVariants.{Done, Usage}
+use Rattle.twe_io.specs.declared.status.Status.TheVariants.{Done, Refused}
 use Rattle.twe_io.specs.Answers.{on_err, on_out}
 use Rattle.twe_explore.specs.Answers.{ExploreDue}
 use Rattle.twe_explore.proofs.answering.answer_one.Goals as goal
@@ -10,7 +10,7 @@ pub returns-in_ok-line-in-None : goal.returns-in_ok-line-in-None
 returns-in_ok-line-in-None c =
     let found = c.args.found.now in
     let none : slice_get found.ended (c.args.number - 1) ≡ None = ap (slice_get found.ended) (sym c.saturating_sub.ensures) ∙ sym c.in-None.ensures in
-    subst (ExploreDue c.args.question.now c.args.text.now) (sym (c.on_err.ensures ∙ ap (on_err Usage) c.in_ok-line-in-None.ensures))
+    subst (ExploreDue c.args.question.now c.args.text.now) (sym (c.on_err.ensures ∙ ap (on_err Refused) c.in_ok-line-in-None.ensures))
     (ExploreDue.no_result c.args.p.now found c.args.number c.requires.wanted c.requires.accepted c.requires.found none)
 
 -- this is the result
