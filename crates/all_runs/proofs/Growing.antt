@@ -13,7 +13,6 @@ use Rattle.machine_state.specs.declared.state.State.{State}
 use Rattle.machine_state.specs.Legal.{MayMove, MayTake}
 use Rattle.machine_state.specs.Moves.{move_result}
 use Rattle.machine_state.proofs.lists.Places.{below_there, got_one, put_before, put_cases, put_last}
-use Rattle.flat_sched.specs.declared.ending.RunEnd.{RunEnd}
 use Rattle.flat_sched.specs.declared.ending.WholeRun.{WholeRun}
 use Rattle.flat_sched.specs.RunEnds.{outcome_of}
 use Rattle.all_runs.specs.declared.found.FoundRun.{FoundRun}
