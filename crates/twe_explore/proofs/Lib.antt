@@ -1,1 +1,2 @@
 mod GivenAnswers
+mod Listed

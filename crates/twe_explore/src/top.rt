@@ -2,6 +2,7 @@
 ghost use Rattle.twe_explore.specs.Answers.{AnswersExplore};
 ghost use Rattle.twe_io.specs.Ends.{ends, ends_tell, sink, source};
 
+use crate::laws::what_twe_run_answers_is_listed;
 use crate::words::Question;
 use std::alloc::Global;
 use twe_base::Word;
@@ -23,5 +24,6 @@ pub fn explore_top<S: Source, O: Sink, E: Sink>(
         (sink E.written E.faults E.write_gives))
         words.now (ends src.old out.old err.old) (ends src.new out.new err.new) result }
 {
+    what_twe_run_answers_is_listed();
     run_text_program::<Question, S, O, E>(alloc, words, src, out, err)
 }
