@@ -15,7 +15,7 @@ use Rattle.twe_io.specs.declared.status.Status.TheVariants.{Done}
 use Rattle.twe_io.specs.Answers.{on_out}
 use Rattle.twe_report.specs.Texts.{cell_line, line, prints_text, result_text}
 use Rattle.text_answers.specs.Answers.{AnswersRun}
-use Rattle.twe_explore.specs.Answers.{IsListed}
+use Rattle.twe_explore.specs.Answers.{IsAnswerOfOne}
 
 -- states with one result have one text
 one_text : (p : Program) (st other : State) → HaveOneResult st other → result_text p st ≡ result_text p other
@@ -23,7 +23,7 @@ one_text p st other one =
     λ i. prints_text (one.prints i) ++ (flat_map (cell_line (one.cells i)) p.cells ++ line (codes "tasks " ++ decimal (one.tasks i)))
 
 pub listed_if_done : (p : Program) (lim : Bounds) (ended : List WholeRun) (st : State) (prints : List ℤ) (answer : Answer) → IsFoundEnd ended st AllDone
-    → AnswersRun p st prints AllDone answer → IsListed p lim ended answer
+    → AnswersRun p st prints AllDone answer → IsAnswerOfOne p lim ended answer
 listed_if_done p lim ended st prints answer (at, run, there, ends) is =
     let same : answer ≡ on_out Done (result_text p run.state) = is ∙ ap (on_out Done) (sym (one_text p run.state st (ends.result refl))) in
     (at, run, there, subst (λ (outcome : Outcome). AnswersRun p run.state (state_after p lim (counted run.journal)).prints outcome answer) (sym ends.ended_so) same)

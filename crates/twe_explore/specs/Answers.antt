@@ -43,8 +43,8 @@ pub record AreAnswersFor (p : Program) (lim : Bounds) (runs : List WholeRun) (an
       → AnswersFor p lim run answer
 
 -- this is what `twe run` answers if it makes one of these runs
-abbrev pub IsListed : Program → Bounds → List WholeRun → Answer → Type 0
-IsListed p lim runs answer = (at : ℕ) × (run : WholeRun) × (slice_get runs at ≡ Some run) × AnswersFor p lim run answer
+abbrev pub IsAnswerOfOne : Program → Bounds → List WholeRun → Answer → Type 0
+IsAnswerOfOne p lim runs answer = (at : ℕ) × (run : WholeRun) × (slice_get runs at ≡ Some run) × AnswersFor p lim run answer
 
 -- whether a run has ended with a fault
 abbrev pub is_fault_end : RunEnd → Bool

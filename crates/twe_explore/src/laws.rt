@@ -12,7 +12,7 @@ ghost use Rattle.twe_io.specs.declared.answer.Answer.{Answer};
 ghost use Rattle.twe_program.specs.Program.{Program};
 ghost use Rattle.all_runs.specs.AllRuns.{ShowsAllRuns};
 ghost use Rattle.all_runs.specs.Explored.{IsFoundEnd};
-ghost use Rattle.twe_explore.specs.Answers.{IsListed};
+ghost use Rattle.twe_explore.specs.Answers.{IsAnswerOfOne};
 
 /// If all runs were looked at, then whatever run `twe run` makes, with however many workers, one of the runs that are listed has ended
 /// with its outcome; and if all tasks are done, what `twe run` answers is what is written for the one that is listed.
@@ -22,5 +22,5 @@ pub fn what_twe_run_answers_is_listed()
         → IsFoundEnd ended (state_after p lim book.journal) outcome }
     ensures done { (p : Program) (lim : Bounds) (ended : List WholeRun) (workers : ℕ) (book : Book) (prints : List ℤ) (answer : Answer)
         → ShowsAllRuns p lim ended → HasRun p lim workers AllDone book
-        → AnswersRun p (state_after p lim book.journal) prints AllDone answer → IsListed p lim ended answer }
+        → AnswersRun p (state_after p lim book.journal) prints AllDone answer → IsAnswerOfOne p lim ended answer }
 {}
