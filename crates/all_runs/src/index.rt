@@ -39,7 +39,7 @@ impl Index {
     }
 }
 
-/// A number that is made of all parts of a state that alike states have in common, and of no other part.
+/// A number that is made of parts of a state that alike states have in common, so that such states have one number.
 pub(crate) fn number_of(st: &State) -> u64 {
     let mut number = mixed(0, u64::from(st.asked));
     number = mixed_ints(number, st.cells.as_slice());
