@@ -56,11 +56,16 @@ abbrev pub is_stuck_end : RunEnd → Bool
 is_stuck_end (run_ends.Stuck cycle) = true
 is_stuck_end _ = false
 
--- the status: whether not all runs were looked at; or else whether one faults; or else whether one gets stuck
+-- the status if all runs were looked at: whether one faults, or else whether one gets stuck
+abbrev pub whole_status : List WholeRun → Status
+whole_status runs =
+    if list_any (λ run. is_fault_end run.end) runs then Fault
+    else if list_any (λ run. is_stuck_end run.end) runs then Stuck
+    else Done
+
+-- the status, by whether all runs were looked at
 abbrev pub results_status : Bool → List WholeRun → Status
-results_status whole runs =
-    if whole then (if list_any (λ run. is_fault_end run.end) runs then Fault else if list_any (λ run. is_stuck_end run.end) runs then Stuck else Done)
-    else Unfinished
+results_status whole runs = if whole then whole_status runs else Unfinished
 
 -- The answer to a text that was read.
 pub data ExploreDue (question : Question) (text : List ℕ) : Answer → Type 0 where
