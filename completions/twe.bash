@@ -88,7 +88,6 @@ _twe_explain() {
 _twe_explore() {
   local current=${COMP_WORDS[COMP_CWORD]} words=' --states --fuel --tasks --journal ' word given
   COMPREPLY=()
-  [[ $current == -* ]] || return
   case ${COMP_WORDS[COMP_CWORD - 1]} in
     --*) return ;; # a number stands here
   esac
