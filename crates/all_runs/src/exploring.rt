@@ -161,9 +161,10 @@ impl Exploration {
 
     /// Adds a run that can go on, unless a state like its own was seen.
     fn add_going(&mut self, alloc: Global, next: FoundRun) -> Result<(), Memory>
-        requires { (p : Program) × (lim : Bounds) × IsWellFormed p × AreFound p lim self.old.going self.old.ended × CanGoOn p lim next }
-        ensures found { OnOk result ((p : Program) (lim : Bounds) → AreFound p lim self.old.going self.old.ended → CanGoOn p lim next
-            → AreFound p lim self.new.going self.new.ended) }
+        requires { (p : Program) × (lim : Bounds) × IsWellFormed p × AreFound p lim self.old.going self.old.ended
+            × CanGoOn p lim next }
+        ensures found { OnOk result ((p : Program) (lim : Bounds) → AreFound p lim self.old.going self.old.ended
+            → CanGoOn p lim next → AreFound p lim self.new.going self.new.ended) }
         ensures grows { OnOk result (Grows self.old.going self.old.ended self.new.going self.new.ended) }
         ensures seen { OnOk result (IsSeen self.new.going next.state) }
     {
@@ -192,8 +193,8 @@ impl Exploration {
 
     /// Adds a run that has ended, unless one has ended so.
     fn add_ended(&mut self, next: WholeRun) -> Result<(), Memory>
-        ensures found { OnOk result ((p : Program) (lim : Bounds) → AreFound p lim self.old.going self.old.ended → HasEnded p lim next
-            → AreFound p lim self.new.going self.new.ended) }
+        ensures found { OnOk result ((p : Program) (lim : Bounds) → AreFound p lim self.old.going self.old.ended
+            → HasEnded p lim next → AreFound p lim self.new.going self.new.ended) }
         ensures grows { OnOk result (Grows self.old.going self.old.ended self.new.going self.new.ended) }
         ensures answered { OnOk result (IsFoundEnd self.new.ended next.state (outcome_of next.end)) }
     {
