@@ -9,3 +9,5 @@ pub mod Forcing
 pub mod Along
 pub mod CellLaws
 pub mod Apartness
+-- What holds in one call.
+pub mod OneCall

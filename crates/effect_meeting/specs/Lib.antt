@@ -4,6 +4,7 @@ pub mod Solving
 pub mod Solutions
 pub mod MeetingsOf
 pub mod Meetings
+pub mod Always
 pub mod Values
 pub mod Meeting
 pub mod Cells

@@ -9,6 +9,7 @@
 
 mod aligned;
 mod all_meetings;
+mod always;
 mod cells;
 mod column;
 mod equality;
@@ -20,9 +21,10 @@ mod solve;
 mod values;
 
 pub use all_meetings::{Meeting, Meetings, meetings_between};
+pub use always::{always_interfere, deciding_local};
 pub use cells::{CellMet, first_cell};
 pub use equality::{Equalities, Equality, Term};
-pub use laws::apart_paths_never_meet;
+pub use laws::{apart_paths_never_meet, parameters_decide};
 pub use meeting::meeting_path;
 pub use met::Met;
 pub use path_meeting::elem_equality;

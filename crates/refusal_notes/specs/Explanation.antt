@@ -31,19 +31,24 @@ with_effect words regions variables effect = words ++ (effect_text regions varia
 abbrev pub declares_text : List (List ℕ) → List written.Name → List Effect → List ℕ
 declares_text regions variables effects = codes "declares `" ++ (effects_text regions variables effects ++ codes "`")
 
--- what `[?]` stands for, if it stands in an effect that is shown
-abbrev pub index_remarks : Bool → List (List ℕ)
-index_remarks stands =
-    if stands
-    then codes "[?] is any index: only a number, a parameter and a final int local count as themselves" ∷ []
-    else []
+-- what is said of `[?]`, if it stands in an effect that is shown
+abbrev pub index_remarks : Bool → List ℕ → List (List ℕ)
+index_remarks stands said = if stands then said ∷ [] else []
+
+-- how an effect that is declared has any index
+abbrev pub declared_index_text : List ℕ
+declared_index_text = codes "[?] is any index: an effect that is declared has it only by `[?]` or `*`"
+
+-- how the rule tells elements apart
+abbrev pub literal_index_text : List ℕ
+literal_index_text = codes "[?] is any index: the rule tells elements apart by literal indexes alone"
 
 -- an effect is needed that is not declared
 abbrev pub undeclared_explanation : Refusal → Place → List ℕ → List ℕ → Bool → Explanation
 undeclared_explanation refusal decl_place declares needs any_index = record {
   headline = codes "an effect is needed here that is not declared";
   notes = note_at decl_place declares ∷ note_at refusal.place needs ∷ [];
-  remarks = asked refusal.rule ∷ index_remarks any_index;
+  remarks = asked refusal.rule ∷ index_remarks any_index declared_index_text;
 }
 
 -- an effect is needed that a spawned task may still have
@@ -51,7 +56,7 @@ abbrev pub out_explanation : Refusal → Place → Option ControlWay → List �
 out_explanation refusal future_place way has needs any_index = record {
   headline = codes "an effect is needed here that may still be out with a spawned task";
   notes = note_at future_place has ∷ note_at refusal.place needs ∷ [];
-  remarks = out_reason way ∷ index_remarks any_index;
+  remarks = out_reason way ∷ index_remarks any_index literal_index_text;
 }
 
 -- what is said of a refusal with its cause

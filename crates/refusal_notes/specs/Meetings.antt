@@ -1,10 +1,11 @@
 -- What is said of where two effects meet.
-use Rattle.std.specs.Prelude.{◌≡◌, ℕ, Bool, List, [], ◌∷◌, ◌++◌, Option, None, Some, codes, slice_get, if◌then◌else◌}
+use Rattle.std.specs.Prelude.{◌≡◌, ◌↔◌, ℕ, Bool, IsTrue, List, [], ◌∷◌, ◌++◌, Option, None, Some, codes, slice_get, if◌then◌else◌}
 use Rattle.std.specs.Fmt.{signed_decimal}
 use Rattle.std.specs.List.{All, flat_map}
 use Rattle.twe_base.specs.declared.place.Place.{Place}
 use Rattle.region_paths.specs.declared.elements.Elem.{Elem}
 use Rattle.region_paths.specs.declared.elements.Elem.TheVariants.{Name, Index, Var, AnyIndex}
+use Rattle.region_paths.specs.Written.{WrittenPath}
 use Rattle.effect_sets.specs.declared.effects.Effect.{Effect}
 use Rattle.twe_ast.specs.declared.name.Name as written
 use Rattle.twe_program.specs.declared.program.CellDecl.{CellDecl}
@@ -13,9 +14,10 @@ use Rattle.twe_program.specs.Program.{Program}
 use Rattle.effect_meeting.specs.declared.cells.CellMet.{CellMet}
 use Rattle.effect_meeting.specs.declared.met.Met.{Met}
 use Rattle.effect_meeting.specs.declared.values.ParamValue.{ParamValue}
+use Rattle.effect_meeting.specs.Always.{AlwaysInterfere, deciding_local}
 use Rattle.effect_meeting.specs.Meeting.{IsWhereMet, NeverMeet}
 use Rattle.effect_meeting.specs.Cells.{IsFirstMet, IsNeverMet}
-use Rattle.twe_frontend.specs.meaning.PathTexts.{in_brackets, parameter_at, path_text}
+use Rattle.twe_frontend.specs.meaning.PathTexts.{in_brackets, parameter_at, path_text, starred_path_text}
 use Rattle.explain_pages.specs.names.Variables.{is_same_place}
 use Rattle.refusal_causes.specs.declared.cause.RuleCause.{RuleCause}
 use Rattle.refusal_causes.specs.declared.cause.RuleCause.TheVariants.{Undeclared, Out, NotOut, OutAgain, OrderOpen, NotDeterministic}
@@ -47,10 +49,13 @@ declared_name (Some decl) = decl.name
 abbrev pub cell_met_text : List CellDecl → CellMet → List ℕ
 cell_met_text cells met = declared_name (slice_get cells met.decl) ++ flat_map cell_index_text met.indexes
 
--- a parameter between accents, and its value
+-- the name of a variable between accents
+abbrev pub named_text : List written.Name → ℕ → List ℕ
+named_text variables number = codes "`" ++ (parameter_at variables number ++ codes "`")
+
+-- a parameter and its value
 abbrev pub given_text : List written.Name → ParamValue → List ℕ
-given_text variables given =
-    codes "`" ++ (parameter_at variables given.param ++ (codes "` is " ++ signed_decimal given.value))
+given_text variables given = named_text variables given.param ++ (codes " is " ++ signed_decimal given.value)
 
 -- the other parameters with their values
 abbrev pub more_given_texts : List written.Name → List ParamValue → List ℕ
@@ -61,32 +66,74 @@ abbrev pub condition_text : List written.Name → List ParamValue → List ℕ
 condition_text variables [] = []
 condition_text variables (given ∷ values) = codes " if " ++ (given_text variables given ++ more_given_texts variables values)
 
--- both may touch this, for which values of parameters, and who writes it
-abbrev pub touch_text : List written.Name → List ℕ → List ParamValue → Effect → Effect → List ℕ
-touch_text variables what values need other =
-    codes "both may touch " ++ (what ++ (condition_text variables values ++ writers_text need.write other.write))
+-- the names of the other parameters
+abbrev pub more_named_texts : List written.Name → List ParamValue → List ℕ
+more_named_texts variables values = flat_map (λ given. codes " and " ++ named_text variables given.param) values
+
+-- the verb after the names of one parameter and of these
+abbrev pub verb_text : List ParamValue → List ℕ
+verb_text [] = codes " is: "
+verb_text (given ∷ values) = codes " are: "
+
+-- that the effects meet for all values of these parameters: "the effects meet whatever `i` and `j` are: "
+abbrev pub all_values_text : List written.Name → List ParamValue → List ℕ
+all_values_text variables [] = []
+all_values_text variables (given ∷ values) =
+    codes "the effects meet whatever "
+    ++ (named_text variables given.param ++ (more_named_texts variables values ++ verb_text values))
+
+-- the same, if it is so
+abbrev pub whatever_text : List written.Name → Bool → List ParamValue → List ℕ
+whatever_text variables always values = if always then all_values_text variables values else []
+
+-- whether the effects meet for all values, what both may touch for which values, and who writes it
+abbrev pub touch_text : List written.Name → Bool → List ℕ → List ParamValue → Effect → Effect → List ℕ
+touch_text variables always what values need other =
+    whatever_text variables always values
+    ++ (codes "both may touch " ++ (what ++ (condition_text variables values ++ writers_text need.write other.write)))
 
 -- a path between accents
 abbrev pub quoted_path : List (List ℕ) → List Elem → List ℕ
 quoted_path regions elems = codes "`" ++ (path_text regions [] elems ++ codes "`")
 
+-- a path between accents, with its variables and its star
+abbrev pub quoted_written : List (List ℕ) → List written.Name → WrittenPath → List ℕ
+quoted_written regions variables path = codes "`" ++ (starred_path_text regions variables path ++ codes "`")
+
+-- the effects meet, or not, by the value of this local, which the rule does not know
+abbrev pub unknown_text : List (List ℕ) → List written.Name → ℕ → Effect → Effect → List ℕ
+unknown_text regions variables local need other =
+    codes "the rule cannot tell " ++ (quoted_written regions variables other.path
+    ++ (codes " and " ++ (quoted_written regions variables need.path
+    ++ (codes " apart: it takes " ++ (named_text variables local ++ codes " as unknown")))))
+
 -- the effects meet nowhere
 abbrev pub nowhere_text : List ℕ
 nowhere_text = codes "no place is in both: the rule compares paths index by index"
+
+-- No local decides whether the effects meet, and this is whether they do for all values of the parameters.
+pub record ParametersDecide (shared : ℕ) (need other : Effect) (always : Bool) : Type 0 where
+  pub no_local : deciding_local shared need other ≡ None
+  pub always_is : IsTrue always ↔ AlwaysInterfere shared need other
 
 -- What is said of where two effects meet. Their variables have these names, and the first of them, as many as are shared, are the
 -- parameters of the task.
 pub data MeetingDue (regions : List (List ℕ)) (cells : List CellDecl) (variables : List written.Name) (shared : ℕ)
     (need other : Effect) : List ℕ → Type 0 where
-  -- they meet at a cell, and it is of the first declaration that has such a cell; they do for these values of parameters
-  at_cell : (met : CellMet) → IsFirstMet shared need.path other.path cells met
+  -- a local decides whether they meet, and they do for some values
+  unknown : (local : ℕ) (met : Met) → deciding_local shared need other ≡ Some local → IsWhereMet shared need.path other.path met
+      → MeetingDue regions cells variables shared need other (unknown_text regions variables local need other)
+  -- the parameters decide; for these values of theirs they meet at a cell, and it is of the first declaration that has such a cell
+  at_cell : (always : Bool) (met : CellMet) → ParametersDecide shared need other always
+      → IsFirstMet shared need.path other.path cells met
       → MeetingDue regions cells variables shared need other
-      (touch_text variables (cell_met_text cells met) met.values need other)
-  -- they meet at a path, for these values of parameters, and at no cell
-  at_path : (met : Met) → IsWhereMet shared need.path other.path met
+      (touch_text variables always (cell_met_text cells met) met.values need other)
+  -- the parameters decide; for these values of theirs they meet at a path, and at no cell for any values
+  at_path : (always : Bool) (met : Met) → ParametersDecide shared need other always
+      → IsWhereMet shared need.path other.path met
       → All (IsNeverMet shared need.path other.path) cells
       → MeetingDue regions cells variables shared need other
-      (touch_text variables (quoted_path regions met.elems) met.values need other)
+      (touch_text variables always (quoted_path regions met.elems) met.values need other)
   -- they meet nowhere
   nowhere : NeverMeet shared need.path other.path
       → MeetingDue regions cells variables shared need other nowhere_text

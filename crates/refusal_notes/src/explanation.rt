@@ -1,6 +1,6 @@
 //! What is said of a refusal, before it is laid out.
 ghost use Rattle.std.specs.Prelude.{◌≡◌, ◌∷◌, [], IfOk, OnOk, ◌++◌};
-ghost use Rattle.refusal_notes.specs.Explanation.{declares_text, explanation_by, explanation_of, index_remarks, out_explanation, place_of_cause, undeclared_explanation, with_effect};
+ghost use Rattle.refusal_notes.specs.Explanation.{declared_index_text, declares_text, explanation_by, explanation_of, index_remarks, literal_index_text, out_explanation, place_of_cause, undeclared_explanation, with_effect};
 ghost use Rattle.explain_pages.specs.places.Notes.{note_at};
 
 use crate::effects::has_any_index;
@@ -86,16 +86,33 @@ fn two_notes(
     Ok(notes)
 }
 
-/// This remark, and then what `[?]` stands for, if it stands in an effect that is shown.
-fn remarks_with(alloc: Global, remark: &[u8], any_index: bool) -> Result<List<Bytes>, Memory>
-    ensures { IfOk result (λ remarks. remarks ≡ remark.now ∷ index_remarks any_index) }
+/// How an effect that is declared has any index.
+fn declared_index_text() -> &'static [u8]
+    ensures { result.now ≡ declared_index_text }
+{
+    b"[?] is any index: an effect that is declared has it only by `[?]` or `*`"
+}
+
+/// How the rule tells elements apart.
+fn literal_index_text() -> &'static [u8]
+    ensures { result.now ≡ literal_index_text }
+{
+    b"[?] is any index: the rule tells elements apart by literal indexes alone"
+}
+
+/// This remark, and then what is said of `[?]`, if it stands in an effect that is shown.
+fn remarks_with(
+    alloc: Global,
+    remark: &[u8],
+    any_index: bool,
+    said: &[u8],
+) -> Result<List<Bytes>, Memory>
+    ensures { IfOk result (λ remarks. remarks ≡ remark.now ∷ index_remarks any_index said.now) }
 {
     let mut remarks = List::new(alloc);
     remarks.push(Bytes::from_slice(alloc, remark)?)?;
     if any_index {
-        let index =
-            b"[?] is any index: only a number, a parameter and a final int local count as themselves";
-        remarks.push(Bytes::from_slice(alloc, index)?)?;
+        remarks.push(Bytes::from_slice(alloc, said)?)?;
     }
     Ok(remarks)
 }
@@ -114,7 +131,7 @@ fn undeclared_explanation(
     Ok(Explanation {
         headline: Bytes::from_slice(alloc, b"an effect is needed here that is not declared")?,
         notes: two_notes(alloc, decl_place, declares, refusal.place, needs)?,
-        remarks: remarks_with(alloc, asked(refusal.rule), any_index)?,
+        remarks: remarks_with(alloc, asked(refusal.rule), any_index, declared_index_text())?,
     })
 }
 
@@ -135,7 +152,7 @@ fn out_explanation(
     Ok(Explanation {
         headline: Bytes::from_slice(alloc, headline)?,
         notes: two_notes(alloc, future_place, has, refusal.place, needs)?,
-        remarks: remarks_with(alloc, reason.as_slice(), any_index)?,
+        remarks: remarks_with(alloc, reason.as_slice(), any_index, literal_index_text())?,
     })
 }
 

@@ -1,20 +1,23 @@
 //! What is said of where two effects meet.
-ghost use Rattle.std.specs.Prelude.{◌≡◌, ◌∷◌, ◌++◌, [], IfOk, OnOk};
+ghost use Rattle.std.specs.Prelude.{◌≡◌, ◌∷◌, ◌++◌, [], IfOk, OnOk, None, Some};
 ghost use Rattle.std.specs.List.{All, flat_map};
+ghost use Rattle.effect_meeting.specs.Always.{deciding_local};
 ghost use Rattle.effect_meeting.specs.Cells.{IsNeverMet};
 ghost use Rattle.explain_pages.specs.names.Variables.{is_same_place};
-ghost use Rattle.refusal_notes.specs.Meetings.{IsMeetingTold, MeetingDue, cell_index_text, cell_met_text, more_given_texts, nowhere_text, params_at, quoted_path, touch_text, given_text, condition_text, writers_text};
+ghost use Rattle.refusal_notes.specs.Meetings.{IsMeetingTold, MeetingDue, ParametersDecide, all_values_text, cell_index_text, cell_met_text, condition_text, given_text, more_given_texts, more_named_texts, named_text, nowhere_text, params_at, quoted_path, quoted_written, touch_text, unknown_text, verb_text, whatever_text, writers_text};
 
-use effect_meeting::{CellMet, Met, ParamValue, first_cell, meeting_path};
+use effect_meeting::{
+    CellMet, Met, ParamValue, always_interfere, deciding_local, first_cell, meeting_path,
+};
 use effect_sets::Effect;
 use explain_pages::is_same_place;
 use itoa::Buffer;
 use refusal_causes::RuleCause;
-use region_paths::Elem;
+use region_paths::{Elem, Path};
 use std::alloc::Global;
 use twe_ast::Name;
 use twe_base::{Bytes, List, Memory, Place, Word};
-use twe_frontend::{push_parameter, push_path};
+use twe_frontend::{push_parameter, push_path, push_starred_path};
 use twe_program::{CellDecl, Decl, Prog};
 
 /// How many parameters the first of the declarations has whose name is at the place.
@@ -80,13 +83,21 @@ fn cell_met_text(alloc: Global, cells: &[CellDecl], met: &CellMet) -> Result<Byt
     Ok(text)
 }
 
-/// Appends a parameter between accents, and its value.
+/// Appends the name of a variable between accents.
+fn push_named(text: &mut Bytes, variables: &[Name], number: u32) -> Result<(), Memory>
+    ensures { OnOk result (text.new ≡ text.old ++ named_text variables.now number) }
+{
+    text.push(b'`')?;
+    push_parameter(text, variables, number)?;
+    text.push(b'`')
+}
+
+/// Appends a parameter and its value.
 fn push_given(text: &mut Bytes, variables: &[Name], given: ParamValue) -> Result<(), Memory>
     ensures { OnOk result (text.new ≡ text.old ++ given_text variables.now given) }
 {
-    text.push(b'`')?;
-    push_parameter(text, variables, given.param)?;
-    text.push_all(b"` is ")?;
+    push_named(text, variables, given.param)?;
+    text.push_all(b" is ")?;
     text.push_all(Buffer::new().format(given.value).as_bytes())
 }
 
@@ -119,18 +130,81 @@ fn push_condition(text: &mut Bytes, variables: &[Name], values: &[ParamValue]) -
     }
 }
 
-/// That both effects may touch this, for which values of parameters, and who writes it.
+/// Appends the names of the other parameters.
+fn push_more_named(
+    text: &mut Bytes,
+    variables: &[Name],
+    values: &[ParamValue],
+) -> Result<(), Memory>
+    ensures { OnOk result (text.new ≡ text.old ++ more_named_texts variables.now values.now) }
+{
+    for given in values {
+        text.push_all(b" and ")?;
+        push_named(text, variables, given.param)?;
+    }
+    Ok(())
+}
+
+/// The verb after the names of one parameter and of these.
+fn verb_text(values: &[ParamValue]) -> &'static [u8]
+    ensures { result.now ≡ verb_text values.now }
+{
+    match values {
+        [] => b" is: ",
+        [_, ..] => b" are: ",
+    }
+}
+
+/// Appends that the effects meet for all values of these parameters, if there are any.
+fn push_all_values(
+    text: &mut Bytes,
+    variables: &[Name],
+    values: &[ParamValue],
+) -> Result<(), Memory>
+    ensures { OnOk result (text.new ≡ text.old ++ all_values_text variables.now values.now) }
+{
+    match values {
+        [] => Ok(()),
+        [given, others @ ..] => {
+            text.push_all(b"the effects meet whatever ")?;
+            push_named(text, variables, given.param)?;
+            push_more_named(text, variables, others)?;
+            text.push_all(verb_text(others))
+        }
+    }
+}
+
+/// Appends the same, if it is so.
+fn push_whatever(
+    text: &mut Bytes,
+    variables: &[Name],
+    always: bool,
+    values: &[ParamValue],
+) -> Result<(), Memory>
+    ensures { OnOk result (text.new ≡ text.old ++ whatever_text variables.now always values.now) }
+{
+    if always {
+        push_all_values(text, variables, values)
+    } else {
+        Ok(())
+    }
+}
+
+/// Whether the effects meet for all values, that both may touch this, for which values of parameters, and who writes it.
 fn touch_text(
     alloc: Global,
     variables: &[Name],
+    always: bool,
     what: &[u8],
     values: &[ParamValue],
     need: &Effect,
     other: &Effect,
 ) -> Result<Bytes, Memory>
-    ensures { IfOk result (λ text. text ≡ touch_text variables.now what.now values.now need.now other.now) }
+    ensures { IfOk result (λ text. text ≡ touch_text variables.now always what.now values.now need.now other.now) }
 {
-    let mut text = Bytes::from_slice(alloc, b"both may touch ")?;
+    let mut text = Bytes::new(alloc);
+    push_whatever(&mut text, variables, always, values)?;
+    text.push_all(b"both may touch ")?;
     text.push_all(what)?;
     push_condition(&mut text, variables, values)?;
     text.push_all(writers_text(need.write, other.write))?;
@@ -147,50 +221,39 @@ fn quoted_path(alloc: Global, regions: &[Word], elems: &[Elem]) -> Result<Bytes,
     Ok(text)
 }
 
-/// That both effects may touch a path, and who writes it.
-fn path_touched(
+/// Appends a path between accents, with its variables and its star.
+fn push_written(
+    text: &mut Bytes,
+    regions: &[Word],
+    variables: &[Name],
+    path: &Path,
+) -> Result<(), Memory>
+    ensures { OnOk result (text.new ≡ text.old ++ quoted_written regions.now variables.now path.now) }
+{
+    text.push(b'`')?;
+    push_starred_path(text, regions, variables, path)?;
+    text.push(b'`')
+}
+
+/// That the effects meet, or not, by the value of this local, which the rule does not know.
+fn unknown_text(
     alloc: Global,
     regions: &[Word],
     variables: &[Name],
-    met: &Met,
+    local: u32,
     need: &Effect,
     other: &Effect,
 ) -> Result<Bytes, Memory>
-    ensures { IfOk result (λ text. text
-        ≡ touch_text variables.now (quoted_path regions.now met.now.elems) met.now.values need.now other.now) }
+    ensures { IfOk result (λ text. text ≡ unknown_text regions.now variables.now local need.now other.now) }
 {
-    let path = quoted_path(alloc, regions, met.elems.as_slice())?;
-    touch_text(
-        alloc,
-        variables,
-        path.as_slice(),
-        met.values.as_slice(),
-        need,
-        other,
-    )
-}
-
-/// That both effects may touch a cell, and who writes it.
-fn cell_touched(
-    alloc: Global,
-    cells: &[CellDecl],
-    variables: &[Name],
-    met: &CellMet,
-    need: &Effect,
-    other: &Effect,
-) -> Result<Bytes, Memory>
-    ensures { IfOk result (λ text. text
-        ≡ touch_text variables.now (cell_met_text cells.now met.now) met.now.values need.now other.now) }
-{
-    let cell = cell_met_text(alloc, cells, met)?;
-    touch_text(
-        alloc,
-        variables,
-        cell.as_slice(),
-        met.values.as_slice(),
-        need,
-        other,
-    )
+    let mut text = Bytes::from_slice(alloc, b"the rule cannot tell ")?;
+    push_written(&mut text, regions, variables, &other.path)?;
+    text.push_all(b" and ")?;
+    push_written(&mut text, regions, variables, &need.path)?;
+    text.push_all(b" apart: it takes ")?;
+    push_named(&mut text, variables, local)?;
+    text.push_all(b" as unknown")?;
+    Ok(text)
 }
 
 /// That the effects meet nowhere.
@@ -201,6 +264,85 @@ fn nowhere_text(alloc: Global) -> Result<Bytes, Memory>
     Bytes::from_slice(alloc, text)
 }
 
+/// What is said if this local decides whether the effects meet.
+fn local_remark(
+    alloc: Global,
+    regions: &[Word],
+    cells: &[CellDecl],
+    variables: &[Name],
+    shared: u32,
+    local: u32,
+    need: &Effect,
+    other: &Effect,
+) -> Result<Bytes, Memory>
+    requires { deciding_local shared need.now other.now ≡ Some local }
+    ensures { IfOk result (MeetingDue regions.now cells.now variables.now shared need.now other.now) }
+{
+    let _ = cells;
+    match meeting_path(alloc, shared, &need.path, &other.path)? {
+        None => {
+            let text = nowhere_text(alloc)?;
+            Ok(text)
+        }
+        Some(_met) => {
+            let text = unknown_text(alloc, regions, variables, local, need, other)?;
+            Ok(text)
+        }
+    }
+}
+
+/// That both effects may touch a path, and who writes it.
+fn path_touched(
+    alloc: Global,
+    regions: &[Word],
+    variables: &[Name],
+    always: bool,
+    met: &Met,
+    need: &Effect,
+    other: &Effect,
+) -> Result<Bytes, Memory>
+    ensures { IfOk result (λ text. text
+        ≡ touch_text variables.now always (quoted_path regions.now met.now.elems) met.now.values need.now other.now) }
+{
+    let path = quoted_path(alloc, regions, met.elems.as_slice())?;
+    let values = met.values.as_slice();
+    touch_text(
+        alloc,
+        variables,
+        always,
+        path.as_slice(),
+        values,
+        need,
+        other,
+    )
+}
+
+/// That both effects may touch a cell, and who writes it.
+fn cell_touched(
+    alloc: Global,
+    cells: &[CellDecl],
+    variables: &[Name],
+    always: bool,
+    met: &CellMet,
+    need: &Effect,
+    other: &Effect,
+) -> Result<Bytes, Memory>
+    ensures { IfOk result (λ text. text
+        ≡ touch_text variables.now always (cell_met_text cells.now met.now) met.now.values need.now other.now) }
+{
+    let cell = cell_met_text(alloc, cells, met)?;
+    let values = met.values.as_slice();
+    touch_text(
+        alloc,
+        variables,
+        always,
+        cell.as_slice(),
+        values,
+        need,
+        other,
+    )
+}
+
 /// What is said of a path at which the effects meet, or that there is none, if they meet at no cell.
 fn path_remark(
     alloc: Global,
@@ -208,10 +350,12 @@ fn path_remark(
     cells: &[CellDecl],
     variables: &[Name],
     shared: u32,
+    always: bool,
     need: &Effect,
     other: &Effect,
 ) -> Result<Bytes, Memory>
-    requires { All (IsNeverMet shared need.now.path other.now.path) cells.now }
+    requires decide { ParametersDecide shared need.now other.now always }
+    requires no_cell { All (IsNeverMet shared need.now.path other.now.path) cells.now }
     ensures { IfOk result (MeetingDue regions.now cells.now variables.now shared need.now other.now) }
 {
     let _ = cells;
@@ -221,7 +365,32 @@ fn path_remark(
             Ok(text)
         }
         Some(met) => {
-            let text = path_touched(alloc, regions, variables, &met, need, other)?;
+            let text = path_touched(alloc, regions, variables, always, &met, need, other)?;
+            Ok(text)
+        }
+    }
+}
+
+/// What is said if the parameters decide whether the effects meet.
+fn parameters_remark(
+    alloc: Global,
+    regions: &[Word],
+    cells: &[CellDecl],
+    variables: &[Name],
+    shared: u32,
+    need: &Effect,
+    other: &Effect,
+) -> Result<Bytes, Memory>
+    requires { deciding_local shared need.now other.now ≡ None }
+    ensures { IfOk result (MeetingDue regions.now cells.now variables.now shared need.now other.now) }
+{
+    let always = always_interfere(alloc, shared, need, other)?;
+    match first_cell(alloc, shared, &need.path, &other.path, cells)? {
+        None => path_remark(
+            alloc, regions, cells, variables, shared, always, need, other,
+        ),
+        Some(met) => {
+            let text = cell_touched(alloc, cells, variables, always, &met, need, other)?;
             Ok(text)
         }
     }
@@ -239,11 +408,10 @@ fn meeting_remark(
 ) -> Result<Bytes, Memory>
     ensures { IfOk result (MeetingDue regions.now cells.now variables.now shared need.now other.now) }
 {
-    match first_cell(alloc, shared, &need.path, &other.path, cells)? {
-        None => path_remark(alloc, regions, cells, variables, shared, need, other),
-        Some(met) => {
-            let text = cell_touched(alloc, cells, variables, &met, need, other)?;
-            Ok(text)
+    match deciding_local(alloc, shared, need, other)? {
+        None => parameters_remark(alloc, regions, cells, variables, shared, need, other),
+        Some(local) => {
+            local_remark(alloc, regions, cells, variables, shared, local, need, other)
         }
     }
 }
