@@ -1,0 +1,15 @@
+pub mod Acts
+pub mod Alike
+pub mod Asks
+pub mod Bindings
+pub mod Bodies
+pub mod Cells
+pub mod ControlPaths
+pub mod Items
+pub mod Lists
+pub mod Meanings
+pub mod MovedActs
+pub mod MovedNeeds
+pub mod NameRules
+pub mod Rules
+pub mod Sites

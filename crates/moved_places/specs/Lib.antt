@@ -1,0 +1,4 @@
+pub mod MovedExpression
+pub mod MovedStatement
+pub mod MovedTree
+pub mod MovedProgram
