@@ -1,0 +1,9 @@
+pub mod Ascending
+pub mod Beside
+pub mod FirstAlike
+pub mod Layouts
+pub mod MovedBodies
+pub mod MovedTokens
+pub mod MovedTrees
+pub mod Refused
+pub mod SameTrees
