@@ -2,6 +2,7 @@
 use Rattle.std.proofs.Common.{◌≡◌, ℕ, List, sym, ap, ◌∙◌}
 use Rattle.twe_base.specs.declared.place.Place.{Place}
 use Rattle.twe_ast.specs.declared.item.Ast.{Ast}
+use Rattle.ast_printer.specs.BareItem.{EqualButForPlaces}
 use Rattle.text_layout.specs.InLayout.{IsInLayout}
 use Rattle.layout_laws.proofs.KeptTree.{kept_tree}
 use Rattle.layout_laws.proofs.OneCut.{same_tokens}
@@ -11,12 +12,13 @@ use Rattle.layout_refusals.specs.SamePlace.{IsSamePlace}
 use Rattle.layout_refusals.proofs.Refused.{refused_alike}
 use Rattle.layout_refusals.proofs.SameTrees.{kinds_of, OneTree}
 
--- the tree of the layout
-again_of : (text laid : List ℕ) (tree : Ast) → IsTreeOf text tree → IsInLayout text laid → (again : Ast) × IsTreeOf laid again
+-- the tree of the layout is that of the text, but for places
+pub again_of : (text laid : List ℕ) (tree : Ast) → IsTreeOf text tree → IsInLayout text laid → (again : Ast) × IsTreeOf laid again × EqualButForPlaces tree again
 again_of text laid tree parsed in_layout =
     let found = kept_tree text laid tree in_layout (record { tokens = parsed.tokens; cut = parsed.cut; writes = parsed.writes; accepted = parsed.keeps }) in (
       found.again,
       record { tokens = found.parsed.tokens; cut = found.parsed.cut; writes = found.parsed.writes; end = found.end; keeps = found.parsed.accepted },
+      sym found.same,
     )
 
 -- the tokens of a text and of its layout have the same kinds

@@ -21,7 +21,7 @@ pub fn same_tokens_are_refused_alike()
 }
 
 /// A text that has a tree is refused exactly if it is refused in its layout: by the same rule, at the place of the same token.
-pub fn layouts_are_refused_alike()
+pub fn layouts_keep_refusals()
     ensures laid { (text laid : List ℕ) (tree : Ast) (rule : RuleName) (place : Place) → IsTreeOf text tree → IsInLayout text laid
         → IsRefusal text (record { rule = rule; place = place })
         → (its : Place) × IsRefusal laid (record { rule = rule; place = its }) × IsSamePlace text laid place its }

@@ -3,4 +3,4 @@
 
 mod laws;
 
-pub use laws::{layouts_are_refused_alike, same_tokens_are_refused_alike};
+pub use laws::{layouts_keep_refusals, same_tokens_are_refused_alike};

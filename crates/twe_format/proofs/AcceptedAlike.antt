@@ -7,22 +7,13 @@ use Rattle.text_layout.specs.InLayout.{IsInLayout}
 use Rattle.twe_frontend.specs.Accepted.{Accepted, IsTreeOf}
 use Rattle.summary_texts.specs.paste_laws.places.Places.{SameButPlaces}
 use Rattle.summary_texts.proofs.SameTree.{OneTree, same_tree}
-use Rattle.layout_laws.proofs.KeptTree.{kept_tree}
+use Rattle.layout_refusals.proofs.Layouts.{again_of}
 
 -- a text whose tree is that of an accepted one, but for places, is accepted, too
 abbrev PlacesDoNotMatter : Type 0
 PlacesDoNotMatter =
     (text other : List ℕ) (p : Program) (its : Ast) (accepted : Accepted text p) → IsTreeOf other its → EqualButForPlaces accepted.meant.tree its
     → (q : Program) × Accepted other q × SameButPlaces p q
-
--- the tree of the layout
-again_of : (text laid : List ℕ) (tree : Ast) → IsTreeOf text tree → IsInLayout text laid → (again : Ast) × IsTreeOf laid again × EqualButForPlaces tree again
-again_of text laid tree parsed in_layout =
-    let found = kept_tree text laid tree in_layout (record { tokens = parsed.tokens; cut = parsed.cut; writes = parsed.writes; accepted = parsed.keeps }) in (
-      found.again,
-      record { tokens = found.parsed.tokens; cut = found.parsed.cut; writes = found.parsed.writes; end = found.end; keeps = found.parsed.accepted },
-      sym found.same,
-    )
 
 pub laid_accepted : PlacesDoNotMatter → (text laid : List ℕ) (p : Program) → Accepted text p → IsInLayout text laid → (q : Program) × Accepted laid q × SameButPlaces p q
 laid_accepted places text laid p accepted in_layout =

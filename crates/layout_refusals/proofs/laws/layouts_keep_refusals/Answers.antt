@@ -1,5 +1,5 @@
 use Rattle.layout_refusals.proofs.Layouts.{laid_refused, text_refused}
-use Rattle.layout_refusals.proofs.laws.layouts_are_refused_alike.Goals as goal
+use Rattle.layout_refusals.proofs.laws.layouts_keep_refusals.Goals as goal
 
 pub returns-clause-laid : goal.returns-clause-laid
 returns-clause-laid c = laid_refused c.one_tree.ensures
