@@ -1,0 +1,9 @@
+//! Places have no part in a run: programs that are equal except for the places in them run alike.
+//!
+//! A place only says where in the text a fault is met. The laws here go from one segment over one move to whole journals and their
+//! outcomes.
+#![tactic(auto)]
+
+mod laws;
+
+pub use laws::segments_do_not_see_places;
