@@ -6,3 +6,8 @@ mod Declarations
 mod Expressions
 mod Statements
 mod Segments
+-- moves and outcomes
+mod Moves
+mod Outcomes
+-- journals
+mod Journals

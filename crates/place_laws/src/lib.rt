@@ -6,4 +6,4 @@
 
 mod laws;
 
-pub use laws::segments_do_not_see_places;
+pub use laws::{moves_do_not_see_places, programs_run_alike, segments_do_not_see_places};
