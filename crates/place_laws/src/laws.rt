@@ -15,15 +15,15 @@ ghost use Rattle.place_laws.specs.Alike.{EndsSo, RunAlike, SameStates};
 ghost use Rattle.place_laws.specs.Bare.{bare_end, bare_stopped};
 
 /// A segment of the one program does what it does in the other. From the same frame and the same cells it makes the same accesses
-/// and leaves the same frame and the same cells. It stops in the same way, but that the place of a make or of a fault may be another.
+/// and leaves the same frame and the same cells. It stops in the same way, but that a make or a fault may have another place.
 pub fn segments_do_not_see_places()
     ensures { (p q : Program) (frame : Frame) (cells : List ℤ) → SameButPlaces p q
         → bare_stopped (segment p frame cells) ≡ bare_stopped (segment q frame cells) }
 {}
 
-/// Both programs start in the same state. In states that are equal but for the place of the first fault the same moves are legal;
-/// and a move ends in the same way and leads to such states again, but that a fault may have another place. Such states have the
-/// same outcome, but for the place of a fault.
+/// Both programs start in the same state. In states that are equal but for the place of the first fault the same moves are legal.
+/// A move ends in the same way in both, but that a fault may have another place, and leads to such states again. The outcome of
+/// such states is the same, but for the place of a fault.
 pub fn moves_do_not_see_places()
     ensures start { (p q : Program) (lim : Bounds) → SameButPlaces p q → start_of p lim ≡ start_of q lim }
     ensures legal { (st other : State) (mv : Move) → SameStates st other → MayMove st mv → MayMove other mv }

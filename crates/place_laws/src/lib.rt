@@ -1,7 +1,7 @@
 //! Places have no part in a run: programs that are equal except for the places in them run alike.
 //!
-//! A place only says where in the text a fault is met. The laws here go from one segment over one move to whole journals and their
-//! outcomes.
+//! A place only says where in the text a fault is met. The laws here are of one segment, of one move, and of whole journals with
+//! their outcomes.
 #![tactic(auto)]
 
 mod laws;

@@ -1,3 +1,4 @@
 pub mod AcceptedAlike
 pub mod OneAnswer
+pub mod RunAlike
 pub mod SameLines

@@ -7,6 +7,7 @@ mod comparing;
 mod laws;
 mod lines;
 mod program;
+mod runs;
 mod text;
 mod top;
 mod words;
