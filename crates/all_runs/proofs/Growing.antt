@@ -1,6 +1,7 @@
 -- What was found is known, and stays so.
-use Rattle.std.proofs.Common.{◌≡◌, ◌<◌, ◌+◌, ◌++◌, ℕ, List, [], ◌∷◌, Some, Result, Ok, Err, length, inl, inr, refl, sym, ap, ◌∙◌, subst, arith}
-use Rattle.std.specs.Prelude.{OnOk, slice_get}
+use Rattle.std.proofs.Common.{◌≡◌, ◌<◌, ◌+◌, ◌++◌, ℕ, false, List, [], ◌∷◌, Some, Result, Ok, Err, length, inl, inr, refl, sym, ap, ◌∙◌, subst, arith}
+use Rattle.std.specs.Prelude.{OnErr, OnOk, slice_get}
+use Rattle.std.specs.Result.{is_err}
 use Rattle.std.proofs.lemmas.Bool.{cases_lt}
 use Rattle.std.proofs.lemmas.Option.{slice_get_within}
 use Rattle.seg_journal.specs.declared.moves.Kind.{Kind}
@@ -23,6 +24,16 @@ use Rattle.all_runs.specs.inner.Growing.{Grows}
 pub if_ok : {T E P Q : Type 0} (r : Result T E) → (P → Q) → OnOk r P → OnOk r Q
 if_ok (Ok x) follows holds = follows holds
 if_ok (Err e) follows holds = holds
+
+-- what follows from the promises of a call, whether it succeeds or not
+pub either_way : {T E P Q : Type 0} (r : Result T E) (W : Type 0) → (P → W) → (Q → W) → OnOk r P → OnErr r Q → W
+either_way (Ok x) W succeeds fails ok err = succeeds ok
+either_way (Err e) W succeeds fails ok err = fails err
+
+-- the promise of a call that has succeeded
+pub if_no_error : {T E P : Type 0} (r : Result T E) → is_err r ≡ false → OnOk r P → P
+if_no_error (Ok x) right holds = holds
+if_no_error (Err e) right holds = absurd (cc (right))
 
 -- Growing.
 

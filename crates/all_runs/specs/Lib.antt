@@ -1,3 +1,4 @@
 pub mod Explored
+pub mod Extents
 pub mod AllRuns
 pub mod inner

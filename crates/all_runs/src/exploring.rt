@@ -10,9 +10,12 @@ ghost use Rattle.machine_state.specs.Runs.{IsRun};
 ghost use Rattle.flat_sched.specs.RunEnds.{outcome_of};
 ghost use Rattle.state_copies.specs.Lasting.{IsFaultless};
 ghost use Rattle.all_runs.specs.declared.found.FoundRun.{FoundRun};
+ghost use Rattle.all_runs.specs.declared.extent.Extent.TheVariants.{All};
+ghost use Rattle.all_runs.specs.Extents.{IsExtent};
 ghost use Rattle.all_runs.specs.Explored.{AreFound, CanGoOn, HasEnded, IsClosedBelow, IsExploration, IsFoundEnd, IsKnown, IsSeen};
 ghost use Rattle.all_runs.specs.inner.Growing.{Grows};
 
+use crate::extent::Extent;
 use crate::found::FoundRun;
 use crate::index::{Index, number_of};
 use crate::successor::with_move;
@@ -52,37 +55,45 @@ impl Exploration {
         Ok(found)
     }
 
-    /// Takes each legal move of each run that is found, as long as no more than `most` runs that can go on are found.
-    pub(crate) fn explore(
-        &mut self,
-        alloc: Global,
-        p: &Prog,
-        lim: Limits,
-        most: usize,
-    ) -> Result<(), Memory>
+    /// Takes each legal move of each run that is found, as long as no more than `most` runs that can go on are found, and as long as
+    /// there is memory. What was found is kept in any case.
+    pub(crate) fn explore(&mut self, alloc: Global, p: &Prog, lim: Limits, most: usize) -> Extent
         requires { IsExploration p.now lim self.old.going self.old.ended }
-        ensures explored { OnOk result (IsExploration p.now lim self.new.going self.new.ended) }
-        ensures closed { OnOk result (length self.new.going ≤ most
-            → IsClosedBelow p.now lim self.new.going self.new.ended (length self.new.going)) }
+        ensures explored { IsExploration p.now lim self.new.going self.new.ended }
+        ensures extent { IsExtent most (length self.new.going) result }
+        ensures closed { result ≡ All → IsClosedBelow p.now lim self.new.going self.new.ended (length self.new.going) }
     {
         for at in 0..most {
             if at >= self.going.len() {
-                return Ok(());
+                return Extent::All;
             }
             if self.going.len() > most {
-                return Ok(());
+                return Extent::TooManyStates;
             }
-            self.take_moves(alloc, p, lim, at)?;
+            if self.take_moves(alloc, p, lim, at).is_err() {
+                return Extent::OutOfMemory;
+            }
         }
-        Ok(())
+        self.extent_at(most)
+    }
+
+    /// The extent if each legal move of the first `most` runs was taken.
+    fn extent_at(&self, most: usize) -> Extent
+        ensures extent { IsExtent most (length self.now.going) result }
+        ensures all { result ≡ All → length self.now.going ≤ most }
+    {
+        if self.going.len() > most {
+            return Extent::TooManyStates;
+        }
+        Extent::All
     }
 
     /// Takes each legal move of the run at this place.
     fn take_moves(&mut self, alloc: Global, p: &Prog, lim: Limits, at: usize) -> Result<(), Memory>
         requires there { at < length self.old.going }
         requires found { AreFound p.now lim self.old.going self.old.ended }
-        ensures found { OnOk result (AreFound p.now lim self.new.going self.new.ended) }
-        ensures grows { OnOk result (Grows self.old.going self.old.ended self.new.going self.new.ended) }
+        ensures found { AreFound p.now lim self.new.going self.new.ended }
+        ensures grows { Grows self.old.going self.old.ended self.new.going self.new.ended }
         ensures taken { OnOk result ((run : FoundRun) (mv : Move) → slice_get self.old.going at ≡ Some run → MayMove run.state mv
             → IsKnown self.new.going self.new.ended (move_result p.now lim run.state mv).0) }
     {
@@ -123,8 +134,8 @@ impl Exploration {
         mv: Move,
     ) -> Result<(), Memory>
         requires found { AreFound p.now lim self.old.going self.old.ended }
-        ensures found { OnOk result (AreFound p.now lim self.new.going self.new.ended) }
-        ensures grows { OnOk result (Grows self.old.going self.old.ended self.new.going self.new.ended) }
+        ensures found { AreFound p.now lim self.new.going self.new.ended }
+        ensures grows { Grows self.old.going self.old.ended self.new.going self.new.ended }
         ensures taken { OnOk result ((run : FoundRun) → slice_get self.old.going at ≡ Some run → MayMove run.state mv
             → IsKnown self.new.going self.new.ended (move_result p.now lim run.state mv).0) }
     {
@@ -143,8 +154,8 @@ impl Exploration {
     fn add(&mut self, alloc: Global, p: &Prog, lim: Limits, next: FoundRun) -> Result<(), Memory>
         requires found { AreFound p.now lim self.old.going self.old.ended }
         requires is_run { IsRun p.now lim next.journal next.state }
-        ensures found { OnOk result (AreFound p.now lim self.new.going self.new.ended) }
-        ensures grows { OnOk result (Grows self.old.going self.old.ended self.new.going self.new.ended) }
+        ensures found { AreFound p.now lim self.new.going self.new.ended }
+        ensures grows { Grows self.old.going self.old.ended self.new.going self.new.ended }
         ensures known { OnOk result (IsKnown self.new.going self.new.ended next.state) }
     {
         let (_main, _fuel) = (p.main, lim.fuel);
@@ -163,9 +174,9 @@ impl Exploration {
     fn add_going(&mut self, alloc: Global, next: FoundRun) -> Result<(), Memory>
         requires { (p : Program) × (lim : Bounds) × IsWellFormed p × AreFound p lim self.old.going self.old.ended
             × CanGoOn p lim next }
-        ensures found { OnOk result ((p : Program) (lim : Bounds) → AreFound p lim self.old.going self.old.ended
-            → CanGoOn p lim next → AreFound p lim self.new.going self.new.ended) }
-        ensures grows { OnOk result (Grows self.old.going self.old.ended self.new.going self.new.ended) }
+        ensures found { (p : Program) (lim : Bounds) → AreFound p lim self.old.going self.old.ended
+            → CanGoOn p lim next → AreFound p lim self.new.going self.new.ended }
+        ensures grows { Grows self.old.going self.old.ended self.new.going self.new.ended }
         ensures seen { OnOk result (IsSeen self.new.going next.state) }
     {
         let number = number_of(&next.state);
@@ -193,9 +204,9 @@ impl Exploration {
 
     /// Adds a run that has ended, unless one has ended so.
     fn add_ended(&mut self, next: WholeRun) -> Result<(), Memory>
-        ensures found { OnOk result ((p : Program) (lim : Bounds) → AreFound p lim self.old.going self.old.ended
-            → HasEnded p lim next → AreFound p lim self.new.going self.new.ended) }
-        ensures grows { OnOk result (Grows self.old.going self.old.ended self.new.going self.new.ended) }
+        ensures found { (p : Program) (lim : Bounds) → AreFound p lim self.old.going self.old.ended
+            → HasEnded p lim next → AreFound p lim self.new.going self.new.ended }
+        ensures grows { Grows self.old.going self.old.ended self.new.going self.new.ended }
         ensures answered { OnOk result (IsFoundEnd self.new.ended next.state (outcome_of next.end)) }
     {
         if is_found_end(self.ended.as_slice(), &next) {

@@ -6,6 +6,7 @@
 
 mod ends;
 mod exploring;
+mod extent;
 mod found;
 mod index;
 mod laws;
@@ -13,5 +14,6 @@ mod successor;
 mod ways_to_end;
 
 pub use ends::{FoundEnds, find_ends};
+pub use extent::Extent;
 pub use found::FoundRun;
 pub use laws::closed_explorations_show_all_runs;

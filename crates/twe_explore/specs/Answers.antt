@@ -1,5 +1,5 @@
 -- What the program answers, and why.
-use Rattle.std.specs.Prelude.{◌≡◌, ◌≤◌, ◌-◌, ◌↔◌, ℕ, Bool, true, false, List, None, Some, length, slice_get, IsTrue, if◌then◌else◌}
+use Rattle.std.specs.Prelude.{◌≡◌, ◌-◌, ℕ, Bool, true, false, List, None, Some, length, slice_get, if◌then◌else◌}
 use Rattle.std.specs.List.{list_any}
 use Rattle.twe_base.specs.Limits.{Bounds}
 use Rattle.twe_program.specs.Program.{Program}
@@ -11,6 +11,9 @@ use Rattle.flat_sched.specs.declared.ending.RunEnd.TheVariants as run_ends
 use Rattle.flat_sched.specs.declared.ending.WholeRun.{WholeRun}
 use Rattle.flat_sched.specs.RunEnds.{outcome_of}
 use Rattle.all_runs.specs.declared.ends.FoundEnds.{FoundEnds}
+use Rattle.all_runs.specs.declared.extent.Extent.{Extent}
+use Rattle.all_runs.specs.declared.extent.Extent.TheVariants.{All, TooManyStates, OutOfMemory}
+use Rattle.all_runs.specs.Extents.{IsExtent}
 use Rattle.all_runs.specs.AllRuns.{ShowsAllRuns, ShowsRuns}
 use Rattle.twe_io.specs.declared.answer.Answer.{Answer}
 use Rattle.twe_io.specs.declared.status.Status.{Status}
@@ -25,11 +28,12 @@ use Rattle.twe_explore.specs.Texts.{explore_usage_text, no_result_text, results_
 use Rattle.twe_explore.specs.Words.{question_of}
 
 -- What was found of the runs of a program: runs that have ended, each with its journal, no two in one way. If all were looked at, each
--- run that has ended, by whatever legal journal, has ended as one of them.
+-- run that has ended, by whatever legal journal, has ended as one of them. If not, more than `most` states were found, or memory ran
+-- out.
 pub record HaveEnds (p : Program) (lim : Bounds) (most : ℕ) (found : FoundEnds) : Type 0 where
   pub shows : ShowsRuns p lim found.ended
-  pub all : IsTrue found.whole → ShowsAllRuns p lim found.ended
-  pub limit : IsTrue found.whole ↔ (found.states ≤ most)
+  pub all : found.extent ≡ All → ShowsAllRuns p lim found.ended
+  pub extent : IsExtent most found.states found.extent
 
 -- this is what `twe run` answers if it makes this run
 abbrev pub AnswersFor : Program → Bounds → WholeRun → Answer → Type 0
@@ -63,6 +67,12 @@ whole_status runs =
     else if list_any (λ run. is_stuck_end run.end) runs then Stuck
     else Done
 
+-- whether a search went to its end
+abbrev pub is_whole : Extent → Bool
+is_whole All = true
+is_whole TooManyStates = false
+is_whole OutOfMemory = false
+
 -- the status, by whether all runs were looked at
 abbrev pub results_status : Bool → List WholeRun → Status
 results_status whole runs = if whole then whole_status runs else Unfinished
@@ -74,7 +84,7 @@ pub data ExploreDue (question : Question) (text : List ℕ) : Answer → Type 0 
   -- the results are listed, each with what `twe run` would write for it
   listed : (p : Program) (found : FoundEnds) (answers : List Answer) → question.journal ≡ None → Accepted text p
       → HaveEnds p question.lim question.states found → AreAnswersFor p question.lim found.ended answers
-      → ExploreDue question text (on_out (results_status found.whole found.ended) (results_text found.states found.whole answers))
+      → ExploreDue question text (on_out (results_status (is_whole found.extent) found.ended) (results_text found.states (is_whole found.extent) answers))
   -- the journal of one result is written, as `twe run --journal` does
   journal_of : (p : Program) (found : FoundEnds) (number : ℕ) (run : WholeRun) → question.journal ≡ Some number → Accepted text p
       → HaveEnds p question.lim question.states found → slice_get found.ended (number - 1) ≡ Some run
@@ -88,7 +98,8 @@ pub data ExploreDue (question : Question) (text : List ℕ) : Answer → Type 0 
 abbrev pub ExploreCause : {S : Type 0} → SourceTells S → List (List ℕ) → S → S → Answer → Type 0
 ExploreCause tells words = TextCause question_of explore_usage_text ExploreDue tells words
 
--- what a call of the program comes to: an answer that has its cause is written; or memory runs out, and nothing is written
+-- what a call of the program comes to: an answer that has its cause is written; or memory runs out beside the search, and nothing
+-- is written
 abbrev pub AnswersExplore : {S O E : Type 0} → EndsTell S O E → List (List ℕ) → Ends S O E → Ends S O E → Status
     → Type 0
 AnswersExplore tells words before after status = IsAnswered tells (ExploreCause tells.src words) before after status

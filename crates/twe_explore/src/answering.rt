@@ -3,7 +3,7 @@ ghost use Rattle.std.specs.Prelude.{◌≡◌, IfOk, None, Some};
 ghost use Rattle.twe_frontend.specs.Accepted.{Accepted};
 ghost use Rattle.twe_explore.specs.Answers.{ExploreDue, HaveEnds};
 
-use crate::results::{answers_for, results_status};
+use crate::results::{answers_for, is_whole, results_status};
 use crate::text::{no_result_text, results_text};
 use crate::words::Question;
 use all_runs::{FoundEnds, find_ends};
@@ -60,9 +60,10 @@ fn answer_all(
 {
     let _ = text;
     let runs = found.ended.as_slice();
+    let whole = is_whole(found.extent);
     let answers = answers_for(alloc, p, question.lim, runs)?;
-    let lines = results_text(alloc, found.states, found.whole, answers.as_slice())?;
-    Ok(Answer::on_out(alloc, results_status(found.whole, runs), lines))
+    let lines = results_text(alloc, found.states, whole, answers.as_slice())?;
+    Ok(Answer::on_out(alloc, results_status(whole, runs), lines))
 }
 
 /// The answer that has the journal of the result of this number, counted from 1.

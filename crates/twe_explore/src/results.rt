@@ -2,8 +2,9 @@
 ghost use Rattle.std.specs.Prelude.{◌≡◌, IfOk};
 ghost use Rattle.std.specs.List.{list_any};
 ghost use Rattle.all_runs.specs.AllRuns.{ShowsRuns};
-ghost use Rattle.twe_explore.specs.Answers.{AreAnswersFor, is_fault_end, is_stuck_end, results_status};
+ghost use Rattle.twe_explore.specs.Answers.{AreAnswersFor, is_fault_end, is_stuck_end, is_whole, results_status};
 
+use all_runs::Extent;
 use flat_sched::{RunEnd, WholeRun};
 use std::alloc::Global;
 use text_answers::answer_ended;
@@ -26,6 +27,13 @@ pub(crate) fn answers_for(
         answers.push(answer_ended(alloc, p, lim, run)?)?;
     }
     Ok(answers)
+}
+
+/// Whether a search went to its end.
+pub(crate) fn is_whole(extent: Extent) -> bool
+    ensures { result ≡ is_whole extent }
+{
+    matches!(extent, Extent::All)
 }
 
 /// The status of the answer.

@@ -1,6 +1,6 @@
-use Rattle.std.proofs.Common.{◌<◌, arith, length}
+use Rattle.std.proofs.Common.{◌<◌, arith, length, sym, ◌∙◌}
 use Rattle.machine_state.specs.Moves.{start_of}
-use Rattle.all_runs.proofs.Growing.{closed_more, known_stays}
+use Rattle.all_runs.proofs.Growing.{closed_more, if_no_error, known_stays}
 use Rattle.all_runs.proofs.exploring.Exploration.explore.Goals as goal
 
 -- the moves of one more run were taken
@@ -10,12 +10,12 @@ loop-at-preserved c =
     let lim = c.args.lim in
     let a = c.loop-at.self in
     let b = c.take_moves.new.self in
-    let grows = c.in_ok-take_moves.ensures.grows in
+    let grows = c.take_moves.ensures.grows in
     let there : c.loop-at.at < length a.going = omega (arith, c.if-at-len.false, c.len.ensures) in
     record {
       explored = record {
-        found = c.in_ok-take_moves.ensures.found;
+        found = c.take_moves.ensures.found;
         start = known_stays a.going a.ended b.going b.ended (start_of p lim) grows c.loop-at.invariant.explored.start;
       };
-      closed = closed_more p lim a.going a.ended b.going b.ended c.loop-at.at there c.loop-at.invariant.closed grows c.in_ok-take_moves.ensures.taken;
+      closed = closed_more p lim a.going a.ended b.going b.ended c.loop-at.at there c.loop-at.invariant.closed grows (if_no_error c.take_moves.result (sym c.is_err.ensures.value ∙ c.if-is_err.false) c.take_moves.ensures.taken);
     }

@@ -18,10 +18,10 @@ loop-task-preserved c =
     let b = c.take.new.self in
     let d = c.take-in-loop-task.new.self in
     let so_far = c.loop-task.invariant in
-    let first : Grows a.going a.ended b.going b.ended = c.in_ok-take.ensures.grows in
-    let second : Grows b.going b.ended d.going d.ended = c.in_ok-take-2.ensures.grows in
+    let first : Grows a.going a.ended b.going b.ended = c.take.ensures.grows in
+    let second : Grows b.going b.ended d.going d.ended = c.take-in-loop-task.ensures.grows in
     record {
-      found = c.in_ok-take-2.ensures.found;
+      found = c.take-in-loop-task.ensures.found;
       grows = grows_on old.going old.ended b.going b.ended d.going d.ended
           (grows_on old.going old.ended a.going a.ended b.going b.ended so_far.grows first) second;
       taken = λ run is.
