@@ -86,7 +86,7 @@ _twe_explain() {
 }
 
 _twe_explore() {
-  local current=${COMP_WORDS[COMP_CWORD]} words=' --states --fuel --tasks --journal ' word given
+  local current=${COMP_WORDS[COMP_CWORD]} words=' --states --fuel --tasks --journal --json ' word given
   COMPREPLY=()
   case ${COMP_WORDS[COMP_CWORD - 1]} in
     --*) return ;; # a number stands here
@@ -116,7 +116,7 @@ _tw() {
     case ${COMP_WORDS[1]} in
       run) words=' --workers --fuel --tasks --journal ' ;;
       why) words=' --all --run --fuel --tasks ' ;;
-      explore) words=' --states --fuel --tasks --journal ' ;;
+      explore) words=' --states --fuel --tasks --journal --json ' ;;
       fmt) words=' --check ' ;;
       keep | advise) words=' --workers --fuel --tasks ' ;;
       draw) words=' order trace --workers --fuel --tasks ' ;;

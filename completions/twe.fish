@@ -18,7 +18,8 @@ complete -c tw -n '__fish_seen_subcommand_from run why keep explore advise draw;
 complete -c tw -n '__fish_seen_subcommand_from run why keep explore advise draw; and not __fish_contains_opt tasks' -l tasks -x -d 'how many tasks may be made'
 complete -c tw -n '__fish_seen_subcommand_from run; and not __fish_contains_opt journal' -l journal -d 'write the journal too'
 complete -c tw -n '__fish_seen_subcommand_from explore; and not __fish_contains_opt states' -l states -x -d 'how many states may be found'
-complete -c tw -n '__fish_seen_subcommand_from explore; and not __fish_contains_opt journal' -l journal -x -d 'the journal of one result'
+complete -c tw -n '__fish_seen_subcommand_from explore; and not __fish_contains_opt journal json' -l journal -x -d 'the journal of one result'
+complete -c tw -n '__fish_seen_subcommand_from explore; and not __fish_contains_opt journal json' -l json -d 'JSON in place of lines'
 complete -c tw -n '__fish_seen_subcommand_from fmt; and not __fish_contains_opt check' -l check -d 'write the lines that differ'
 complete -c tw -n '__fish_seen_subcommand_from why; and not __fish_contains_opt all' -l all -d 'each rule on effects that fails'
 complete -c tw -n '__fish_seen_subcommand_from why; and not __fish_contains_opt run' -l run -d 'run it, and say why the run ends early'
@@ -60,7 +61,8 @@ complete -c twe_explore -f
 complete -c twe_explore -n 'not __fish_contains_opt states' -l states -x -d 'how many states may be found'
 complete -c twe_explore -n 'not __fish_contains_opt fuel' -l fuel -x -d 'how much fuel each task has'
 complete -c twe_explore -n 'not __fish_contains_opt tasks' -l tasks -x -d 'how many tasks may be made'
-complete -c twe_explore -n 'not __fish_contains_opt journal' -l journal -x -d 'write the journal of this result alone'
+complete -c twe_explore -n 'not __fish_contains_opt journal json' -l journal -x -d 'write the journal of this result alone'
+complete -c twe_explore -n 'not __fish_contains_opt journal json' -l json -d 'write JSON in place of lines'
 complete -c twe_format -f
 complete -c twe_format -n __fish_use_subcommand -a --check -d 'the lines that are not in the layout'
 complete -c twe_infer -f

@@ -1,2 +1,4 @@
 mod GivenAnswers
 mod Listed
+mod OneResultMore
+mod Plain

@@ -25,6 +25,7 @@ use Rattle.twe_report.specs.Texts.{journal_part_text, refusal_text}
 use Rattle.text_answers.specs.Answers.{AnswersRun}
 use Rattle.twe_explore.specs.declared.words.Question.{Question}
 use Rattle.twe_explore.specs.Texts.{explore_usage_text, no_result_text, results_text}
+use Rattle.twe_explore.specs.Json.{IsJsonLine, explored_data, results_data}
 use Rattle.twe_explore.specs.Words.{question_of}
 
 -- What was found of the runs of a program: runs that have ended, each with its journal, no two in one way. If all were looked at, each
@@ -68,10 +69,10 @@ whole_status runs =
     else Done
 
 -- whether a search went to its end
-abbrev pub is_whole : Extent → Bool
-is_whole All = true
-is_whole TooManyStates = false
-is_whole OutOfMemory = false
+abbrev pub is_complete : Extent → Bool
+is_complete All = true
+is_complete TooManyStates = false
+is_complete OutOfMemory = false
 
 -- the status, by whether all runs were looked at
 abbrev pub results_status : Bool → List WholeRun → Status
@@ -82,9 +83,15 @@ pub data ExploreDue (question : Question) (text : List ℕ) : Answer → Type 0 
   -- the text is refused, as `twe run` says
   refused : (r : Refusal) → IsRefusal text r → ExploreDue question text (on_err Refused (refusal_text r))
   -- the results are listed, each with what `twe run` would write for it
-  listed : (p : Program) (found : FoundEnds) (answers : List Answer) → question.journal ≡ None → Accepted text p
+  listed : (p : Program) (found : FoundEnds) (answers : List Answer) → question.journal ≡ None → question.json ≡ false → Accepted text p
       → HaveEnds p question.lim question.states found → AreAnswersFor p question.lim found.ended answers
-      → ExploreDue question text (on_out (results_status (is_whole found.extent) found.ended) (results_text found.states (is_whole found.extent) answers))
+      → ExploreDue question text (on_out (results_status (is_complete found.extent) found.ended) (results_text found.states (is_complete found.extent) answers))
+  -- the same is written as JSON, with the journal of each result
+  listed_as_json : (p : Program) (found : FoundEnds) (answers : List Answer) (line : List ℕ) → question.journal ≡ None
+      → question.json ≡ true → Accepted text p → HaveEnds p question.lim question.states found
+      → AreAnswersFor p question.lim found.ended answers
+      → IsJsonLine (explored_data (is_complete found.extent) (results_data question.lim found.ended answers) found.states) line
+      → ExploreDue question text (on_out (results_status (is_complete found.extent) found.ended) line)
   -- the journal of one result is written, as `twe run --journal` does
   journal_of : (p : Program) (found : FoundEnds) (number : ℕ) (run : WholeRun) → question.journal ≡ Some number → Accepted text p
       → HaveEnds p question.lim question.states found → slice_get found.ended (number - 1) ≡ Some run

@@ -6,7 +6,7 @@ use Rattle.twe_report.specs.Texts.{line}
 
 -- the usage line
 abbrev pub explore_usage_text : List ℕ
-explore_usage_text = line (codes "usage: twe_explore [--states N] [--fuel N] [--tasks N] [--journal K]")
+explore_usage_text = line (codes "usage: twe_explore [--states N] [--fuel N] [--tasks N] [--journal K | --json]")
 
 -- `1 result`, or `3 results`
 abbrev pub count_text : ℕ → List ℕ

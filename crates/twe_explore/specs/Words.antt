@@ -1,6 +1,6 @@
--- What the words after the program's name ask for: `--states N`, `--fuel N`, `--tasks N` and `--journal K`. Each stands at most once,
--- and they may stand in any order. Other words ask for nothing.
-use Rattle.std.specs.Prelude.{◌≤◌, ℕ, Bool, true, false, List, Option, None, Some, unwrap_or, is_some, codes, bytes_eq, fold, if◌then◌else◌}
+-- What the words after the program's name ask for: `--states N`, `--fuel N`, `--tasks N`, and `--journal K` or `--json`. Each stands at
+-- most once, and they may stand in any order. Other words ask for nothing, and neither do `--journal` and `--json` together.
+use Rattle.std.specs.Prelude.{◌≤◌, ◌&&◌, ℕ, Bool, true, false, List, Option, None, Some, unwrap_or, is_some, codes, bytes_eq, fold, if◌then◌else◌}
 use Rattle.twe_base.specs.Language.{default_fuel, default_tasks, max_fuel, max_tasks}
 use Rattle.command_line.specs.Numbers.{number_between}
 use Rattle.twe_explore.specs.declared.words.Settings.{Settings}
@@ -25,6 +25,7 @@ no_settings = record {
   tasks = false;
   lim = record { fuel = default_fuel; tasks = default_tasks };
   journal = None;
+  json = false;
   next = AnOption;
 }
 
@@ -75,6 +76,15 @@ kind_of_number settings (Some setting) = if was_given settings setting then Nowh
 abbrev pub kind_after : Settings → List ℕ → WordKind
 kind_after settings word = kind_of_number settings (setting_named word)
 
+-- the results are wanted as JSON
+abbrev pub json_taken : Settings → Settings
+json_taken settings = if settings.json then record settings { next = Nowhere } else record settings { json = true }
+
+-- an option is taken
+abbrev pub with_option : Settings → List ℕ → Settings
+with_option settings word =
+    if bytes_eq word (codes "--json") then json_taken settings else record settings { next = kind_after settings word }
+
 -- a number is taken for a setting
 abbrev pub number_taken : Settings → Setting → Option ℕ → Settings
 number_taken settings setting None = record settings { next = Nowhere }
@@ -82,7 +92,7 @@ number_taken settings setting (Some number) = setting_set settings setting numbe
 
 -- one word is taken
 abbrev pub settings_after_by : WordKind → Settings → List ℕ → Settings
-settings_after_by AnOption settings word = record settings { next = kind_after settings word }
+settings_after_by AnOption settings word = with_option settings word
 settings_after_by (Number setting) settings word = number_taken settings setting (setting_number setting word)
 settings_after_by Nowhere settings word = settings
 
@@ -93,10 +103,14 @@ settings_after settings word = settings_after_by settings.next settings word
 abbrev pub settings_in : List (List ℕ) → Settings
 settings_in words = fold settings_after no_settings words
 
--- the words ask for this, if the last option has its number
+-- what is asked for with these settings
+abbrev pub asked_with : Settings → Question
+asked_with settings =
+    record { states = unwrap_or settings.states default_states; lim = settings.lim; journal = settings.journal; json = settings.json }
+
+-- the words ask for this, if the last option has its number, and not both a journal and JSON are wanted
 abbrev pub question_at : WordKind → Settings → Option Question
-question_at AnOption settings =
-    Some (record { states = unwrap_or settings.states default_states; lim = settings.lim; journal = settings.journal })
+question_at AnOption settings = if settings.json && is_some settings.journal then None else Some (asked_with settings)
 question_at (Number setting) settings = None
 question_at Nowhere settings = None
 

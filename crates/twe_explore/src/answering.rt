@@ -1,9 +1,10 @@
 //! The answer to a text.
-ghost use Rattle.std.specs.Prelude.{◌≡◌, IfOk, None, Some};
+ghost use Rattle.std.specs.Prelude.{◌≡◌, IfOk, None, Some, false, true};
 ghost use Rattle.twe_frontend.specs.Accepted.{Accepted};
 ghost use Rattle.twe_explore.specs.Answers.{ExploreDue, HaveEnds};
 
-use crate::results::{answers_for, is_whole, results_status};
+use crate::json::json_line;
+use crate::results::{answers_for, is_complete, results_status};
 use crate::text::{no_result_text, results_text};
 use crate::words::Question;
 use all_runs::{FoundEnds, find_ends};
@@ -40,13 +41,13 @@ fn answer_accepted(
 {
     let found = find_ends(alloc, p, question.lim, question.states as usize)?;
     match question.journal {
-        None => answer_all(alloc, question, text, p, &found),
+        None => answer_listed(alloc, question, text, p, &found),
         Some(number) => answer_one(alloc, question, text, p, &found, number),
     }
 }
 
-/// The answer that lists all results.
-fn answer_all(
+/// The answer that lists all results, in lines or as JSON.
+fn answer_listed(
     alloc: Global,
     question: &Question,
     text: &[u8],
@@ -58,9 +59,52 @@ fn answer_all(
     requires wanted { question.now.journal ≡ None }
     ensures { IfOk result (ExploreDue question.now text.now) }
 {
+    if question.json {
+        return answer_as_json(alloc, question, text, p, found);
+    }
+    answer_all(alloc, question, text, p, found)
+}
+
+/// The answer that lists all results as JSON.
+fn answer_as_json(
+    alloc: Global,
+    question: &Question,
+    text: &[u8],
+    p: &Prog,
+    found: &FoundEnds,
+) -> Result<Answer, Memory>
+    requires accepted { Accepted text.now p.now }
+    requires found { HaveEnds p.now question.now.lim question.now.states found.now }
+    requires wanted { question.now.journal ≡ None }
+    requires json { question.now.json ≡ true }
+    ensures { IfOk result (ExploreDue question.now text.now) }
+{
+    let _ = text;
+    let lim = question.lim;
+    let runs = found.ended.as_slice();
+    let whole = is_complete(found.extent);
+    let answers = answers_for(alloc, p, lim, runs)?;
+    let line = json_line(alloc, lim, found.states, whole, runs, answers.as_slice())?;
+    Ok(Answer::on_out(alloc, results_status(whole, runs), line))
+}
+
+/// The answer that lists all results in lines.
+fn answer_all(
+    alloc: Global,
+    question: &Question,
+    text: &[u8],
+    p: &Prog,
+    found: &FoundEnds,
+) -> Result<Answer, Memory>
+    requires accepted { Accepted text.now p.now }
+    requires found { HaveEnds p.now question.now.lim question.now.states found.now }
+    requires wanted { question.now.journal ≡ None }
+    requires lines { question.now.json ≡ false }
+    ensures { IfOk result (ExploreDue question.now text.now) }
+{
     let _ = text;
     let runs = found.ended.as_slice();
-    let whole = is_whole(found.extent);
+    let whole = is_complete(found.extent);
     let answers = answers_for(alloc, p, question.lim, runs)?;
     let lines = results_text(alloc, found.states, whole, answers.as_slice())?;
     Ok(Answer::on_out(alloc, results_status(whole, runs), lines))

@@ -3,6 +3,7 @@
 #![tactic(auto)]
 
 mod answering;
+mod json;
 mod laws;
 mod program;
 mod results;

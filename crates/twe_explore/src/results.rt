@@ -2,7 +2,7 @@
 ghost use Rattle.std.specs.Prelude.{◌≡◌, IfOk};
 ghost use Rattle.std.specs.List.{list_any};
 ghost use Rattle.all_runs.specs.AllRuns.{ShowsRuns};
-ghost use Rattle.twe_explore.specs.Answers.{AreAnswersFor, is_fault_end, is_stuck_end, is_whole, results_status};
+ghost use Rattle.twe_explore.specs.Answers.{AreAnswersFor, is_fault_end, is_stuck_end, is_complete, results_status};
 
 use all_runs::Extent;
 use flat_sched::{RunEnd, WholeRun};
@@ -30,8 +30,8 @@ pub(crate) fn answers_for(
 }
 
 /// Whether a search went to its end.
-pub(crate) fn is_whole(extent: Extent) -> bool
-    ensures { result ≡ is_whole extent }
+pub(crate) fn is_complete(extent: Extent) -> bool
+    ensures { result ≡ is_complete extent }
 {
     matches!(extent, Extent::All)
 }

@@ -14,7 +14,7 @@ pub(crate) fn usage_text(alloc: Global) -> Result<Bytes, Memory>
 {
     Bytes::from_slice(
         alloc,
-        b"usage: twe_explore [--states N] [--fuel N] [--tasks N] [--journal K]\n",
+        b"usage: twe_explore [--states N] [--fuel N] [--tasks N] [--journal K | --json]\n",
     )
 }
 

@@ -1,6 +1,7 @@
 //! What the words after the program's name ask for.
 ghost use Rattle.std.specs.Prelude.{◌≡◌, IfSome};
-ghost use Rattle.twe_explore.specs.Words.{IsInRange, settings_after, settings_in, no_settings, setting_number, kind_after, setting_named, setting_set, was_given, question_of};
+ghost use Rattle.twe_explore.specs.Words.{IsInRange, settings_after, settings_in, no_settings, setting_number, kind_after, setting_named, setting_set, was_given, json_taken, with_option, question_at, question_of};
+ghost use Rattle.twe_explore.specs.declared.words.WordKind.TheVariants.{Option as AnOption};
 
 use command_line::number_between;
 use twe_base::{Limits, Word};
@@ -20,6 +21,8 @@ pub struct Question {
     pub lim: Limits,
     /// The result whose journal is wanted alone, counted from 1, if one is.
     pub journal: Option<u64>,
+    /// Whether the results are wanted as JSON.
+    pub json: bool,
 }
 
 /// What a number is for.
@@ -59,6 +62,8 @@ pub struct Settings {
     pub lim: Limits,
     /// The result whose journal is wanted, if it is given.
     pub journal: Option<u64>,
+    /// Whether the results are wanted as JSON.
+    pub json: bool,
     /// What the next word is.
     pub next: WordKind,
 }
@@ -73,6 +78,7 @@ fn no_settings() -> Settings
         tasks: false,
         lim: Limits::default(),
         journal: None,
+        json: false,
         next: WordKind::Option,
     }
 }
@@ -152,12 +158,33 @@ fn kind_after(settings: &Settings, word: &Word) -> WordKind
     }
 }
 
+/// Notes that the results are wanted as JSON.
+fn take_json(settings: &mut Settings)
+    ensures { settings.new ≡ json_taken settings.old }
+{
+    if settings.json {
+        settings.next = WordKind::Nowhere;
+    } else {
+        settings.json = true;
+    }
+}
+
+/// Takes an option.
+fn take_option(settings: &mut Settings, word: &Word)
+    ensures { settings.new ≡ with_option settings.old word.now }
+{
+    match word.as_str() {
+        "--json" => take_json(settings),
+        _ => settings.next = kind_after(settings, word),
+    }
+}
+
 /// Takes one word.
 fn take_word(settings: &mut Settings, word: &Word)
     ensures { settings.new ≡ settings_after settings.old word.now }
 {
     match settings.next {
-        WordKind::Option => settings.next = kind_after(settings, word),
+        WordKind::Option => take_option(settings, word),
         WordKind::Number(setting) => match setting_number(setting, word) {
             None => settings.next = WordKind::Nowhere,
             Some(number) => set(settings, setting, number),
@@ -177,17 +204,28 @@ fn settings_in(words: &[Word]) -> Settings
     settings
 }
 
+/// What is asked for with these settings, if not both a journal and JSON are.
+fn question_with(settings: &Settings) -> Option<Question>
+    ensures { result ≡ question_at AnOption settings.now }
+{
+    if settings.json && settings.journal.is_some() {
+        return None;
+    }
+    Some(Question {
+        states: settings.states.unwrap_or(DEFAULT_STATES),
+        lim: settings.lim,
+        journal: settings.journal,
+        json: settings.json,
+    })
+}
+
 /// What the words ask for, or `None` if they ask for nothing that the program does.
 pub(crate) fn question_in(words: &[Word]) -> Option<Question>
     ensures { result ≡ question_of words.now }
 {
     let settings = settings_in(words);
     match settings.next {
-        WordKind::Option => Some(Question {
-            states: settings.states.unwrap_or(DEFAULT_STATES),
-            lim: settings.lim,
-            journal: settings.journal,
-        }),
+        WordKind::Option => question_with(&settings),
         WordKind::Number(_) => None,
         WordKind::Nowhere => None,
     }

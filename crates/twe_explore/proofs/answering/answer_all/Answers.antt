@@ -13,8 +13,8 @@ returns c =
     let answers = c.in_ok-answers.answers in
     let given : AreAnswersFor c.args.p.now question.lim found.ended answers =
     subst (λ (runs : List WholeRun). AreAnswersFor c.args.p.now question.lim runs answers) c.as_slice-runs.ensures c.in_ok-answers.ensures in
-    let whole = c.is_whole-whole.ensures in
+    let whole = c.is_complete-whole.ensures in
     let lines = c.in_ok-lines.ensures ∙ (λ i. results_text found.states (whole i) (c.as_slice.ensures i)) in
     let status = c.results_status.ensures ∙ (λ i. results_status (whole i) (c.as_slice-runs.ensures i)) in
     subst (ExploreDue question c.args.text.now) (sym (c.on_out.ensures ∙ (λ i. on_out (status i) (lines i))))
-    (ExploreDue.listed c.args.p.now found answers c.requires.wanted c.requires.accepted c.requires.found given)
+    (ExploreDue.listed c.args.p.now found answers c.requires.wanted c.requires.lines c.requires.accepted c.requires.found given)
