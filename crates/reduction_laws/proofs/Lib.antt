@@ -1,0 +1,8 @@
+-- How the laws of this crate are proved, in the order in which to read the files. Each uses only those above it.
+
+-- A run that has met a fault has ended so; a task that is about to meet one meets it later, too.
+mod Faults
+-- Numbers that are exchanged twice.
+mod TurnedNumbers
+-- States that are the same but for the numbers of the tasks, before and after a segment.
+mod AlikeStates

@@ -1,0 +1,4 @@
+use Rattle.reduction_laws.proofs.laws.an_admission_that_nothing_meets_may_come_first.Goals as goal
+
+pub returns : goal.returns
+returns c = ?

@@ -1,0 +1,3 @@
+pub mod WaysToEnd
+pub mod Makes
+pub mod Meeting
