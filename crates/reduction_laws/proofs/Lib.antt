@@ -6,3 +6,8 @@ mod Faults
 mod TurnedNumbers
 -- States that are the same but for the numbers of the tasks, before and after a segment.
 mod AlikeStates
+-- The rows after an admission; who yields to a task that was made.
+mod Admissions
+-- Alike states allow the same admissions, and can end in the same ways.
+mod AlikeAdmissions
+mod AlikeEnds
