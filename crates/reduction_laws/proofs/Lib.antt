@@ -11,3 +11,9 @@ mod Admissions
 -- Alike states allow the same admissions, and can end in the same ways.
 mod AlikeAdmissions
 mod AlikeEnds
+-- States with the same rows and results are one.
+mod EqualStates
+-- What a segment keeps of each row.
+mod RowFacts
+-- An admission and a segment change places.
+mod AdmissionsAndSegments
