@@ -1,12 +1,9 @@
 -- Admissions: the rows after one, and who yields to a task that was made.
-use Rattle.std.proofs.Common.{◌≡◌, ◌≢◌, ◌⊎◌, ◌<◌, ℕ, Bool, true, false, List, [], ◌∷◌, length, Option, None, Some, inl, inr, refl, sym, ap, ◌∙◌, subst, length-set}
-use Rattle.std.specs.Prelude.{option_map, slice_get, slice_set}
-use Rattle.std.proofs.lemmas.Bool.{cases_eq}
+use Rattle.std.proofs.Common.{◌≡◌, ◌≢◌, ◌⊎◌, ℕ, List, length, None, Some, inl, inr, refl, sym, ap, ◌∙◌, subst, length-set}
+use Rattle.std.specs.Prelude.{slice_get, slice_set}
 use Rattle.twe_base.specs.Limits.{Bounds}
 use Rattle.effect_sets.specs.declared.effects.Effect.{Effect}
 use Rattle.effect_sets.specs.Interference.{SomeInterfere}
-use Rattle.seg_journal.specs.declared.moves.Kind.TheVariants.{Admit}
-use Rattle.seg_journal.specs.declared.moves.Move.{Move}
 use Rattle.wait_graph.specs.declared.tasks.Link.{Link}
 use Rattle.wait_graph.specs.Chain.{none}
 use Rattle.wait_graph.specs.Waiting.{SpawnedBy, WaitsOn, YieldsTo}
@@ -19,7 +16,7 @@ use Rattle.machine_state.specs.declared.state.State.{State}
 use Rattle.machine_state.specs.declared.state.TaskRow.{TaskRow}
 use Rattle.machine_state.specs.declared.state.TaskStatus.TheVariants.{Enabled, Made}
 use Rattle.machine_state.specs.Legal.{Interfere, MayAdmit}
-use Rattle.machine_state.specs.Moves.{admitted, admitted_row, result_by_kind}
+use Rattle.machine_state.specs.Moves.{admitted, admitted_row}
 use Rattle.machine_state.specs.Rows.{HasStatus, IsRow}
 use Rattle.machine_state.specs.Runs.{IsReached}
 use Rattle.machine_state.proofs.lists.Places.{got_one, set_cases, set_other, set_same}

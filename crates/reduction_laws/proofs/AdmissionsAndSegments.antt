@@ -1,13 +1,12 @@
 -- The admission of one task and the next segment of another change places.
-use Rattle.std.proofs.Common.{◌≡◌, ◌≢◌, ◌<◌, ◌++◌, ℕ, ℤ, Bool, true, false, List, length, Option, None, Some, inl, inr, refl, sym, ap, ◌∙◌, subst, arith}
+use Rattle.std.proofs.Common.{◌≡◌, ◌≢◌, ◌++◌, ℕ, ℤ, false, List, length, Option, None, Some, inl, inr, refl, sym, ap, ◌∙◌, subst, arith}
 use Rattle.std.specs.Prelude.{slice_get}
 use Rattle.std.proofs.lemmas.Option.{slice_get_within}
 use Rattle.twe_base.specs.Limits.{Bounds}
 use Rattle.effect_sets.specs.declared.effects.Effect.{Effect}
 use Rattle.effect_sets.specs.Interference.{SomeInterfere}
 use Rattle.seg_journal.specs.declared.moves.Kind.TheVariants.{Admit, Run}
-use Rattle.seg_journal.specs.declared.moves.Move.{Move}
-use Rattle.wait_graph.specs.Waiting.{DescendsFrom, IsDone, WaitsOn, WaitsOnUnlessDone, YieldsTo}
+use Rattle.wait_graph.specs.Waiting.{WaitsOnUnlessDone, YieldsTo}
 use Rattle.wait_graph.proofs.ChainLemmas.{Chain-stays}
 use Rattle.wait_graph.proofs.WaitingLemmas.{YieldsTo-alone}
 use Rattle.twe_program.specs.Program.{Program}
@@ -24,9 +23,9 @@ use Rattle.machine_state.specs.declared.state.TaskRow.{TaskRow}
 use Rattle.machine_state.specs.declared.state.TaskStatus.TheVariants.{Done, Enabled, Made}
 use Rattle.machine_state.specs.Changes.{next_segment}
 use Rattle.machine_state.specs.Legal.{Interfere, MayAdmit, MayRun}
-use Rattle.machine_state.specs.Moves.{admitted_row, move_result, ready_frame}
+use Rattle.machine_state.specs.Moves.{ready_frame}
 use Rattle.machine_state.specs.Rows.{HasStatus, IsRow}
-use Rattle.machine_state.specs.Runs.{IsReached, is_fault}
+use Rattle.machine_state.specs.Runs.{IsReached}
 use Rattle.machine_state.proofs.links.ChainsStay.{chain_stays}
 use Rattle.machine_state.proofs.lists.Places.{got_one}
 use Rattle.machine_state.proofs.standing.ReachedStands.{reached_stands}

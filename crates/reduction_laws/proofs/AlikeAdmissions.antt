@@ -1,9 +1,8 @@
 -- States that are the same but for numbers allow the same admissions, and these lead to such states again.
-use Rattle.std.proofs.Common.{◌≡◌, ◌≢◌, ℕ, Bool, true, false, List, length, Option, None, Some, inl, inr, refl, sym, ap, ◌∙◌, subst}
+use Rattle.std.proofs.Common.{◌≡◌, ◌≢◌, ℕ, length, Option, None, Some, inl, inr, refl, sym, ap, ◌∙◌, subst}
 use Rattle.std.specs.Prelude.{option_map, slice_get}
 use Rattle.twe_base.specs.Limits.{Bounds}
 use Rattle.seg_journal.specs.declared.moves.Kind.TheVariants.{Admit}
-use Rattle.seg_journal.specs.declared.moves.Move.{Move}
 use Rattle.wait_graph.specs.declared.tasks.Link.{Link}
 use Rattle.wait_graph.specs.Chain.{none, more}
 use Rattle.wait_graph.specs.Link.{link_of}
@@ -14,9 +13,8 @@ use Rattle.isolation_laws.specs.soundness.KeepsEffects.{KeepsEffects}
 use Rattle.isolation_laws.proofs.rows.LinksOfRows.{link_not_there, link_there}
 use Rattle.machine_state.specs.declared.state.State.{State}
 use Rattle.machine_state.specs.declared.state.TaskRow.{TaskRow}
-use Rattle.machine_state.specs.declared.state.TaskStatus.TheVariants.{Enabled, Made}
+use Rattle.machine_state.specs.declared.state.TaskStatus.TheVariants.{Enabled}
 use Rattle.machine_state.specs.Legal.{Interfere, MayAdmit}
-use Rattle.machine_state.specs.Moves.{admitted_row}
 use Rattle.machine_state.specs.Rows.{HasStatus, IsRow, row_awaited}
 use Rattle.machine_state.proofs.standing.ReachedStands.{reached_stands}
 use Rattle.machine_state.proofs.standing.Standing.{Stands}

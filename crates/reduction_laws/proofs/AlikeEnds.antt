@@ -1,5 +1,5 @@
 -- States that are the same but for numbers can end in the same ways.
-use Rattle.std.proofs.Common.{◌≡◌, ℕ, Bool, true, false, List, [], ◌∷◌, length, refl, sym, ap, ◌∙◌, subst, inl, inr}
+use Rattle.std.proofs.Common.{ℕ, List, [], ◌∷◌, ap, ◌∙◌, inl, inr}
 use Rattle.std.proofs.lemmas.Bool.{cases_Bool}
 use Rattle.twe_base.specs.Limits.{Bounds}
 use Rattle.seg_journal.specs.declared.journal.Entry.{Entry}
@@ -12,8 +12,8 @@ use Rattle.isolation_laws.specs.soundness.KeepsEffects.{KeepsEffects}
 use Rattle.machine_state.specs.declared.state.State.{State}
 use Rattle.machine_state.specs.declared.state.TaskRow.{TaskRow}
 use Rattle.machine_state.specs.Changes.{next_segment}
-use Rattle.machine_state.specs.Legal.{MayMove, MayTake}
-use Rattle.machine_state.specs.Moves.{move_result, result_by_kind}
+use Rattle.machine_state.specs.Legal.{MayTake}
+use Rattle.machine_state.specs.Moves.{result_by_kind}
 use Rattle.machine_state.specs.Rows.{IsRow}
 use Rattle.machine_state.specs.Runs.{AllTasksDone, LegalFrom, replayed}
 use Rattle.determinism_laws.specs.numbering.Renumbering.{Numbering}

@@ -1,9 +1,8 @@
 -- Two states of runs without a fault that are the same but for the numbers of the tasks.
-use Rattle.std.proofs.Common.{◌≡◌, ◌≤◌, ◌+◌, ◌++◌, ℕ, ℤ, Bool, true, false, List, [], length, Option, None, Some, inl, inr, refl, sym, ap, ◌∙◌, subst, arith}
+use Rattle.std.proofs.Common.{◌≡◌, ◌≤◌, ◌++◌, ℕ, false, length, Option, None, Some, refl, sym, ap, ◌∙◌, subst, arith}
 use Rattle.std.specs.Prelude.{option_map, slice_get}
 use Rattle.twe_base.specs.Limits.{Bounds}
 use Rattle.seg_journal.specs.declared.moves.Kind.TheVariants.{Run}
-use Rattle.seg_journal.specs.declared.moves.Move.{Move}
 use Rattle.twe_program.specs.Program.{Program}
 use Rattle.twe_program.specs.WellFormed.{IsWellFormed}
 use Rattle.seg_meaning.specs.declared.frame.Frame.{Frame}
@@ -14,7 +13,7 @@ use Rattle.machine_state.specs.declared.state.State.{State}
 use Rattle.machine_state.specs.declared.state.TaskRow.{TaskRow}
 use Rattle.machine_state.specs.Changes.{next_segment}
 use Rattle.machine_state.specs.Legal.{MayRun}
-use Rattle.machine_state.specs.Moves.{awaited_value, ready_frame, result_by_kind, value_of}
+use Rattle.machine_state.specs.Moves.{awaited_value, ready_frame, value_of}
 use Rattle.machine_state.specs.Rows.{IsRow, row_awaited}
 use Rattle.machine_state.specs.Runs.{IsReached}
 use Rattle.machine_state.proofs.segment_laws.BeingReady.{ready_given}

@@ -1,7 +1,7 @@
 -- A run that has met a fault has ended so, whatever moves come after. A task that is about to meet one meets it later, too.
-use Rattle.std.proofs.Common.{◌≡◌, ◌≢◌, ◌≤◌, ◌<◌, ◌+◌, not, ℕ, Bool, true, false, List, [], ◌∷◌, Option, None, Some, inl, inr, refl, sym, ap, ◌∙◌, subst, arith, nat_lt, ltb-true}
+use Rattle.std.proofs.Common.{◌≡◌, ◌≤◌, ◌<◌, ◌+◌, not, ℕ, Bool, true, false, List, [], ◌∷◌, Option, None, Some, inl, inr, refl, sym, ap, ◌∙◌, subst, arith, nat_lt, ltb-true}
 use Rattle.std.specs.Prelude.{slice_get}
-use Rattle.std.proofs.lemmas.Bool.{cases_Bool, cases_eq, lt-ltb}
+use Rattle.std.proofs.lemmas.Bool.{cases_eq, lt-ltb}
 use Rattle.twe_base.specs.Limits.{Bounds}
 use Rattle.seg_journal.specs.declared.journal.End.{End}
 use Rattle.seg_journal.specs.declared.journal.End.TheVariants as ends
@@ -19,7 +19,7 @@ use Rattle.machine_state.specs.declared.state.FirstFault.{FirstFault}
 use Rattle.machine_state.specs.declared.state.State.{State}
 use Rattle.machine_state.specs.declared.state.TaskRow.{TaskRow}
 use Rattle.machine_state.specs.declared.state.TaskStatus.TheVariants.{Made, Enabled, Done}
-use Rattle.machine_state.specs.Changes.{LeavesAlone, ResultsAfter, fault_after, next_segment}
+use Rattle.machine_state.specs.Changes.{ResultsAfter, fault_after, next_segment}
 use Rattle.machine_state.specs.Legal.{MayMove, MayRun, MayTake}
 use Rattle.machine_state.specs.Moves.{move_result, result_by_kind}
 use Rattle.machine_state.specs.Rows.{IsRow}

@@ -17,3 +17,15 @@ mod EqualStates
 mod RowFacts
 -- An admission and a segment change places.
 mod AdmissionsAndSegments
+-- At most one of two tasks that may run prints.
+mod PrintsApart
+-- Two segments change places.
+mod SegmentsExchanged
+-- The law of tasks that may run.
+pub mod RunFirst
+-- Two admissions change places.
+mod TwoAdmissions
+-- A task that nothing meets stays one.
+mod NothingMeetsLater
+-- The law of admissions.
+pub mod AdmitFirst

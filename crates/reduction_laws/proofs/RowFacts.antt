@@ -1,17 +1,14 @@
 -- What the next segment of a task keeps of each row, and what a task that it makes has.
 use Rattle.std.proofs.Common.{◌≡◌, ◌≢◌, ℕ, Bool, true, false, length, Option, None, Some, refl, sym, ap, ◌∙◌, subst}
-use Rattle.std.specs.Prelude.{◌==◌, if◌then◌else◌, slice_get}
+use Rattle.std.specs.Prelude.{◌==◌, if◌then◌else◌}
 use Rattle.twe_base.specs.Limits.{Bounds}
-use Rattle.effect_sets.specs.declared.effects.Effect.{Effect}
 use Rattle.seg_meaning.specs.declared.frame.Frame.{Frame}
 use Rattle.seg_meaning.specs.declared.stop.Stop.{Stop}
 use Rattle.seg_meaning.specs.declared.stop.Stop.TheVariants as stops
 use Rattle.seg_meaning.specs.Segment.{Stopped}
 use Rattle.machine_state.specs.declared.state.State.{State}
 use Rattle.machine_state.specs.declared.state.TaskRow.{TaskRow}
-use Rattle.machine_state.specs.declared.state.TaskStatus.{TaskStatus}
 use Rattle.machine_state.specs.declared.state.TaskStatus.TheVariants.{Done, Enabled, Made}
-use Rattle.machine_state.specs.Changes.{asked_by}
 use Rattle.machine_state.specs.Moves.{admitted_row, joined_row, new_row}
 use Rattle.machine_state.specs.Rows.{IsRow}
 use Rattle.determinism_laws.proofs.MovedRows.{RowsAfter, child_joined, made_after, marked, own_after}

@@ -1,5 +1,5 @@
 -- Numbers that are exchanged twice are those that they were.
-use Rattle.std.proofs.Common.{◌≡◌, ℕ, List, [], ◌∷◌, Option, None, Some, refl, sym, ap, ◌∙◌}
+use Rattle.std.proofs.Common.{◌≡◌, ℕ, List, [], ◌∷◌, Option, None, Some, refl, ap}
 use Rattle.std.specs.Prelude.{map, option_map}
 use Rattle.seg_meaning.specs.declared.frame.Frame.{Frame}
 use Rattle.seg_meaning.specs.declared.frame.Next.{Next}
