@@ -29,3 +29,5 @@ mod TwoAdmissions
 mod NothingMeetsLater
 -- The law of admissions.
 pub mod AdmitFirst
+-- Both, and each admission if no task may run.
+pub mod EnoughMoves

@@ -1,3 +1,4 @@
 pub mod WaysToEnd
 pub mod Makes
 pub mod Meeting
+pub mod Enough

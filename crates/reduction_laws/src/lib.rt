@@ -7,4 +7,7 @@
 
 mod laws;
 
-pub use laws::{a_task_that_may_run_may_run_first, an_admission_that_nothing_meets_may_come_first};
+pub use laws::{
+    a_task_that_may_run_may_run_first, an_admission_that_nothing_meets_may_come_first,
+    enough_moves_keep_each_way_to_end,
+};
