@@ -8,6 +8,7 @@ use Rattle.effect_sets.specs.declared.effects.Summary.{Summary}
 use Rattle.effect_sets.specs.Interference.{SomeInterfere}
 use Rattle.seg_journal.specs.declared.moves.Kind.TheVariants.{Run}
 use Rattle.wait_graph.specs.Chain.{more, none}
+use Rattle.twe_program.specs.Fitting.{TakesArguments}
 use Rattle.twe_program.specs.Program.{Program}
 use Rattle.twe_program.specs.WellFormed.{IsWellFormed}
 use Rattle.seg_meaning.specs.declared.frame.Frame.{Frame}
@@ -71,10 +72,10 @@ module _ (p : Program) (st : State) (s t : ℕ) (differ : s ≢ t) (may_s : MayA
   pub alone_after_admission : NothingMeets p ad t
   alone_after_admission = record {
     made = λ u other made meets. alone.made u other (still_made u made) (admitted_interfere st s may_s.0.0 may_s.0.1 u t meets);
-    later = λ u maker row other at undone here decl leads args meets.
+    later = λ u maker row other at undone here decl leads args takes meets.
         let one = was_there u maker at in
         let two = was_there t row here in
-        alone.later u one.before two.before other one.there (one.undone undone) two.there decl (subst (λ (d : ℕ). LeadsTo p d decl) (sym one.decl) leads) args
+        alone.later u one.before two.before other one.there (one.undone undone) two.there decl (subst (λ (d : ℕ). LeadsTo p d decl) (sym one.decl) leads) args takes
         (subst (λ (es : List Effect). SomeInterfere (effects_at p decl args).effects es) (sym two.effects) meets);
   }
 
@@ -137,8 +138,10 @@ module _ (p : Program) (wf : IsWellFormed p) (keeps : KeepsEffects p) (lim : Bou
   new_apart : (r row : TaskRow) → made_after lim s left.stop (length st.tasks) ≡ Some r → IsRow new t row → ¬ SomeInterfere r.effects.effects row.effects.effects
   new_apart r row made here meets =
       let stands = reached_stands p lim new wf reached_new in
-      let effects : r.effects ≡ effects_at p r.decl r.args = (stands.rows (length st.tasks) r (rows.made r made)).effects in
-      alone.later s of_s.row row_t differ of_s.here undone_s here_t r.decl (record { first = r.decl; makes = makes_new r made; chain = none }) r.args
+      let row_stands = stands.rows (length st.tasks) r (rows.made r made) in
+      let effects : r.effects ≡ effects_at p r.decl r.args = row_stands.effects in
+      let takes = row_stands.count in
+      alone.later s of_s.row row_t differ of_s.here undone_s here_t r.decl (record { first = r.decl; makes = makes_new r made; chain = none }) r.args takes
       (subst (λ (es : List Effect). SomeInterfere (effects_at p r.decl r.args).effects es) (sym (effects_t row here))
       (subst (λ (e : Summary). SomeInterfere e.effects row.effects.effects) effects meets))
 
@@ -155,18 +158,18 @@ module _ (p : Program) (wf : IsWellFormed p) (keeps : KeepsEffects p) (lim : Bou
       by_origin (from_make is new_made) = new_apart made.0 meets.1 new_made meets.3 (met meets.1 meets.3)
 
   no_later : (u : ℕ) (maker row : TaskRow) → u ≢ t → IsRow new u maker → maker.status ≢ Done → IsRow new t row → (decl : ℕ) → LeadsTo p maker.decl decl
-      → (args : List ℤ) → ¬ SomeInterfere (effects_at p decl args).effects row.effects.effects
-  no_later u maker row other at undone here decl leads args meets = by_origin (origin u maker at)
+      → (args : List ℤ) → TakesArguments (slice_get p.tasks decl) (length args) → ¬ SomeInterfere (effects_at p decl args).effects row.effects.effects
+  no_later u maker row other at undone here decl leads args takes meets = by_origin (origin u maker at)
     where
       met : SomeInterfere (effects_at p decl args).effects row_t.effects.effects
       met = subst (λ (es : List Effect). SomeInterfere (effects_at p decl args).effects es) (sym (effects_t row here)) meets
 
       by_origin : CameFrom lim st s left u maker → ⊥
       by_origin (from_old before before_at kept) =
-          alone.later u before row_t other before_at (kept.undone undone) here_t decl (subst (λ (d : ℕ). LeadsTo p d decl) (sym kept.decl) leads) args met
+          alone.later u before row_t other before_at (kept.undone undone) here_t decl (subst (λ (d : ℕ). LeadsTo p d decl) (sym kept.decl) leads) args takes met
       by_origin (from_make is made) =
           alone.later s of_s.row row_t differ of_s.here undone_s here_t decl
-          (record { first = maker.decl; makes = makes_new maker made; chain = more leads.makes leads.chain }) args met
+          (record { first = maker.decl; makes = makes_new maker made; chain = more leads.makes leads.chain }) args takes met
 
   pub alone_after_segment : NothingMeets p new t
   alone_after_segment = record { made = no_made; later = no_later }

@@ -1,6 +1,7 @@
 -- When nothing that is there or may come is held back by the admission of a task.
-use Rattle.std.specs.Prelude.{◌≢◌, ℕ, ℤ, List}
+use Rattle.std.specs.Prelude.{◌≢◌, ℕ, ℤ, List, length, slice_get}
 use Rattle.effect_sets.specs.Interference.{SomeInterfere}
+use Rattle.twe_program.specs.Fitting.{TakesArguments}
 use Rattle.twe_program.specs.Program.{Program}
 use Rattle.seg_meaning.specs.Entry.{effects_at}
 use Rattle.machine_state.specs.declared.state.State.{State}
@@ -11,9 +12,10 @@ use Rattle.machine_state.specs.Rows.{HasStatus, IsRow}
 use Rattle.reduction_laws.specs.Makes.{LeadsTo}
 
 -- Nothing meets task t: no other task that waits for its admission interferes with it, nor does any declaration that another task
--- which isn't done may lead to, whatever the arguments are.
+-- which isn't done may lead to, whatever its arguments are.
 pub record NothingMeets (p : Program) (st : State) (t : ℕ) : Type 0 where
   pub made : (u : ℕ) → u ≢ t → HasStatus st u Made → ¬ Interfere st u t
   pub later : (u : ℕ) (maker row : TaskRow) → u ≢ t → IsRow st u maker → maker.status ≢ Done → IsRow st t row
       → (decl : ℕ) → LeadsTo p maker.decl decl
-      → (args : List ℤ) → ¬ SomeInterfere (effects_at p decl args).effects row.effects.effects
+      → (args : List ℤ) → TakesArguments (slice_get p.tasks decl) (length args)
+      → ¬ SomeInterfere (effects_at p decl args).effects row.effects.effects

@@ -10,7 +10,8 @@ ghost use Rattle.machine_state.specs.declared.state.State.{State};
 ghost use Rattle.machine_state.specs.Legal.{MayAdmit, MayMove, MayRun};
 ghost use Rattle.machine_state.specs.Moves.{move_result};
 ghost use Rattle.machine_state.specs.Runs.{IsReached};
-ghost use Rattle.reduction_laws.specs.Enough.{Choice, IsChosen, IsEnough};
+ghost use Rattle.reduction_laws.specs.declared.choice.Choice.{Choice};
+ghost use Rattle.reduction_laws.specs.Enough.{IsChosen, IsEnough};
 ghost use Rattle.reduction_laws.specs.Meeting.{NothingMeets};
 ghost use Rattle.reduction_laws.specs.WaysToEnd.{CanEndSo, HasEndedSo, WayToEnd};
 

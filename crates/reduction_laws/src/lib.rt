@@ -5,8 +5,10 @@
 //! tasks differ.
 #![tactic(auto)]
 
+mod choice;
 mod laws;
 
+pub use choice::Choice;
 pub use laws::{
     a_task_that_may_run_may_run_first, an_admission_that_nothing_meets_may_come_first,
     enough_moves_keep_each_way_to_end,
