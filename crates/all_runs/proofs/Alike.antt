@@ -51,7 +51,7 @@ counterpart st other t row alike there =
 status_alike : (a b : TaskRow) → lasting_row a ≡ lasting_row b → a.status ≡ b.status
 status_alike a b alike = sym (status_lasts a) ∙ (ap (λ (r : TaskRow). r.status) alike ∙ status_lasts b)
 
-effects_alike : (a b : TaskRow) → lasting_row a ≡ lasting_row b → a.effects.effects ≡ b.effects.effects
+pub effects_alike : (a b : TaskRow) → lasting_row a ≡ lasting_row b → a.effects.effects ≡ b.effects.effects
 effects_alike a b alike = ap (λ e. e.effects) (sym (effects_last a) ∙ (ap (λ (r : TaskRow). r.effects) alike ∙ effects_last b))
 
 -- the row of a task that isn't done is the same
@@ -69,7 +69,7 @@ has_alike st other t status alike has =
 
 -- Moves.
 
-interfere_alike : (st other : State) (s t : ℕ) → AreAlike st other → Interfere st s t → Interfere other s t
+pub interfere_alike : (st other : State) (s t : ℕ) → AreAlike st other → Interfere st s t → Interfere other s t
 interfere_alike st other s t alike (a, b, there, here, meet) =
     let x = counterpart st other s a alike there in
     let y = counterpart st other t b alike here in (
@@ -81,7 +81,7 @@ interfere_alike st other s t alike (a, b, there, here, meet) =
           (subst (λ (es : List Effect). SomeInterfere a.effects.effects es) (sym (effects_alike y.its b y.alike)) meet),
     )
 
-take_alike : (st other : State) (kind : Kind) (t : ℕ) → AreAlike st other → MayTake st kind t → MayTake other kind t
+pub take_alike : (st other : State) (kind : Kind) (t : ℕ) → AreAlike st other → MayTake st kind t → MayTake other kind t
 take_alike st other Admit t alike may = (
   has_alike st other t _ alike may.0,
   λ s ne on meet.

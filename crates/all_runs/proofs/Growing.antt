@@ -12,12 +12,14 @@ use Rattle.twe_program.specs.Program.{Program}
 use Rattle.machine_state.specs.declared.ending.Outcome.{Outcome}
 use Rattle.machine_state.specs.declared.state.State.{State}
 use Rattle.machine_state.specs.Legal.{MayMove, MayTake}
-use Rattle.machine_state.specs.Moves.{move_result}
+use Rattle.machine_state.specs.Moves.{move_result, result_by_kind}
 use Rattle.machine_state.proofs.lists.Places.{below_there, got_one, put_before, put_cases, put_last}
 use Rattle.flat_sched.specs.declared.ending.WholeRun.{WholeRun}
 use Rattle.flat_sched.specs.RunEnds.{outcome_of}
 use Rattle.all_runs.specs.declared.found.FoundRun.{FoundRun}
-use Rattle.all_runs.specs.Explored.{AreFound, CanGoOn, EndsAs, HasEnded, HaveOneResult, IsClosedBelow, IsFoundEnd, IsKnown, IsSeen}
+use Rattle.all_runs.specs.Explored.{AreFound, CanGoOn, EndsAs, HasEnded, HaveOneResult, IsClosedBelow, IsFoundEnd, IsKnown, IsSeen, IsTakenFrom}
+use Rattle.reduction_laws.specs.declared.choice.Choice.TheVariants.{Admission, EachAdmission, Segment}
+use Rattle.reduction_laws.specs.Enough.{IsEnough}
 use Rattle.all_runs.specs.inner.Growing.{Grows}
 
 -- what follows from a promise of a call that succeeds
@@ -131,39 +133,58 @@ none_more ended at run st outcome before is not k other below there =
 
 -- Moves that were taken.
 
--- each legal move of the tasks before this one leads to a known state
-abbrev pub TakenBelow : Program → Bounds → List FoundRun → List WholeRun → State → ℕ → Type 0
-TakenBelow p lim going ended st bound = (mv : Move) → mv.task < bound → MayMove st mv → IsKnown going ended (move_result p lim st mv).0
+-- each admission of the tasks before this one leads to a known state, if it is legal
+abbrev pub AdmittedBelow : Program → Bounds → List FoundRun → List WholeRun → State → ℕ → Type 0
+AdmittedBelow p lim going ended st bound = (t : ℕ) → t < bound → MayTake st Admit t → IsKnown going ended (result_by_kind p lim st Admit t).0
 
--- both moves of one more task were taken, one after the other
-pub taken_more : (p : Program) (lim : Bounds) (a : List FoundRun) (x : List WholeRun) (b : List FoundRun) (y : List WholeRun) (c : List FoundRun) (z : List WholeRun) (st : State) (t : ℕ)
-    → TakenBelow p lim a x st t → Grows a x b y → Grows b y c z
-    → (MayMove st (record { kind = Admit; task = t }) → IsKnown b y (move_result p lim st (record { kind = Admit; task = t })).0)
-    → (MayMove st (record { kind = Run; task = t }) → IsKnown c z (move_result p lim st (record { kind = Run; task = t })).0)
-    → TakenBelow p lim c z st (t + 1)
-taken_more p lim a x b y c z st t before first second admission segment mv below may =
-    elim (cases_lt mv.task t) [
-      | inl less ↦ known_stays a x c z (move_result p lim st mv).0 (grows_on a x b y c z first second) (before mv less may)
-      | inr high ↦ let same : mv.task ≡ t = omega arith in here mv.kind mv.task same may
-    ] where
-      here : (kind : Kind) (task : ℕ) → task ≡ t → MayTake st kind task → IsKnown c z (move_result p lim st (record { kind = kind; task = task })).0
-      here Admit task same legal =
-          subst (λ (n : ℕ). IsKnown c z (move_result p lim st (record { kind = Admit; task = n })).0) (sym same)
-          (known_stays b y c z (move_result p lim st (record { kind = Admit; task = t })).0 second (admission (subst (MayTake st Admit) same legal)))
-      here Run task same legal =
-          subst (λ (n : ℕ). IsKnown c z (move_result p lim st (record { kind = Run; task = n })).0) (sym same) (segment (subst (MayTake st Run) same legal))
+-- that of one more task was taken
+pub admitted_more : (p : Program) (lim : Bounds) (a : List FoundRun) (x : List WholeRun) (b : List FoundRun) (y : List WholeRun) (st : State) (t : ℕ)
+    → AdmittedBelow p lim a x st t → Grows a x b y → (MayTake st Admit t → IsKnown b y (result_by_kind p lim st Admit t).0) → AdmittedBelow p lim b y st (t + 1)
+admitted_more p lim a x b y st t before grows now u below may =
+    elim (cases_lt u t) [
+      | inl less ↦ known_stays a x b y (result_by_kind p lim st Admit u).0 grows (before u less may)
+      | inr high ↦
+          let same : u ≡ t = omega arith in
+          subst (λ (n : ℕ). IsKnown b y (result_by_kind p lim st Admit n).0) (sym same) (now (subst (MayTake st Admit) same may))
+    ]
+
+module _ (p : Program) (lim : Bounds) (going : List FoundRun) (ended : List WholeRun) (st : State) where
+  -- a move of this kind of this task was taken
+  one_taken : (kind : Kind) (t : ℕ) → (MayTake st kind t → IsKnown going ended (result_by_kind p lim st kind t).0)
+      → (mv : Move) → mv.kind ≡ kind → mv.task ≡ t → MayMove st mv → IsKnown going ended (move_result p lim st mv).0
+  one_taken kind t known mv kinds tasks may =
+      let same : mv ≡ record { kind = kind; task = t } = λ i. record { kind = kinds i; task = tasks i } in
+      let legal : MayTake st kind t = subst (λ (x : Move). MayTake st x.kind x.task) same may in
+      subst (λ (x : State). IsKnown going ended x) (λ i. (result_by_kind p lim st (sym kinds i) (sym tasks i)).0) (known legal)
+
+  pub taken_segment : (t : ℕ) → IsEnough p st (Segment t) → (MayTake st Run t → IsKnown going ended (result_by_kind p lim st Run t).0) → IsTakenFrom p lim going ended st
+  taken_segment t enough known = record { choice = Segment t; enough = enough; taken = λ mv chosen may. one_taken Run t known mv chosen.0 chosen.1 may }
+
+  pub taken_admission : (t : ℕ) → IsEnough p st (Admission t) → (MayTake st Admit t → IsKnown going ended (result_by_kind p lim st Admit t).0) → IsTakenFrom p lim going ended st
+  taken_admission t enough known = record { choice = Admission t; enough = enough; taken = λ mv chosen may. one_taken Admit t known mv chosen.0 chosen.1 may }
+
+  pub taken_admissions : IsEnough p st EachAdmission → ((t : ℕ) → MayTake st Admit t → IsKnown going ended (result_by_kind p lim st Admit t).0) → IsTakenFrom p lim going ended st
+  taken_admissions enough known = record { choice = EachAdmission; enough = enough; taken = λ mv chosen may. one_taken Admit mv.task (known mv.task) mv chosen refl may }
+
+-- what was taken stays so
+taken_stays : (p : Program) (lim : Bounds) (a : List FoundRun) (x : List WholeRun) (b : List FoundRun) (y : List WholeRun) (st : State) → Grows a x b y → IsTakenFrom p lim a x st
+    → IsTakenFrom p lim b y st
+taken_stays p lim a x b y st grows from = record {
+  choice = from.choice;
+  enough = from.enough;
+  taken = λ mv chosen may. known_stays a x b y (move_result p lim st mv).0 grows (from.taken mv chosen may);
+}
 
 -- the moves of one more run were taken
 pub closed_more : (p : Program) (lim : Bounds) (a : List FoundRun) (x : List WholeRun) (b : List FoundRun) (y : List WholeRun) (at : ℕ)
-    → at < length a → IsClosedBelow p lim a x at → Grows a x b y
-    → ((run : FoundRun) (mv : Move) → slice_get a at ≡ Some run → MayMove run.state mv → IsKnown b y (move_result p lim run.state mv).0)
+    → at < length a → IsClosedBelow p lim a x at → Grows a x b y → ((run : FoundRun) → slice_get a at ≡ Some run → IsTakenFrom p lim b y run.state)
     → IsClosedBelow p lim b y (at + 1)
-closed_more p lim a x b y at there closed grows taken k run mv below is may =
+closed_more p lim a x b y at there closed grows taken k run below is =
     let within : k < length a = omega arith in
     let old = below_there a k within in
     let one : old.0 ≡ run = got_one (slice_get b k) (grows.going_stay k old.0 old.1) is in
     let was : slice_get a k ≡ Some run = old.1 ∙ ap Some one in
     elim (cases_lt k at) [
-      | inl less ↦ known_stays a x b y (move_result p lim run.state mv).0 grows (closed k run mv less was may)
-      | inr high ↦ let same : k ≡ at = omega arith in taken run mv (ap (slice_get a) (sym same) ∙ was) may
+      | inl less ↦ taken_stays p lim a x b y run.state grows (closed k run less was)
+      | inr high ↦ let same : k ≡ at = omega arith in taken run (ap (slice_get a) (sym same) ∙ was)
     ]

@@ -1,6 +1,8 @@
 mod Alike
 mod AlikeMoves
-mod Outcomes
+pub mod Outcomes
+mod AlikeChoices
+pub mod EndedWays
 mod Shown
 mod Successors
 mod Growing

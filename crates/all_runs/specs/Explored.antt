@@ -13,6 +13,8 @@ use Rattle.flat_sched.specs.declared.ending.WholeRun.{WholeRun}
 use Rattle.flat_sched.specs.RunEnds.{IsRunEnd, is_run_over, outcome_of}
 use Rattle.all_runs.specs.declared.found.FoundRun.{FoundRun}
 use Rattle.state_copies.specs.Lasting.{AreAlike}
+use Rattle.reduction_laws.specs.declared.choice.Choice.{Choice}
+use Rattle.reduction_laws.specs.Enough.{IsChosen, IsEnough}
 
 -- The run is one of the program, and it can go on.
 pub record CanGoOn (p : Program) (lim : Bounds) (run : FoundRun) : Type 0 where
@@ -62,8 +64,13 @@ pub record IsExploration (p : Program) (lim : Bounds) (going : List FoundRun) (e
   pub found : AreFound p lim going ended
   pub start : IsKnown going ended (start_of p lim)
 
--- each legal move of a run that was found, of those before this place, leads to a run that is known
+-- enough moves of a run that was found were taken: of some choice that is enough, each legal move leads to a run that is known
+pub record IsTakenFrom (p : Program) (lim : Bounds) (going : List FoundRun) (ended : List WholeRun) (st : State) : Type 0 where
+  pub choice : Choice
+  pub enough : IsEnough p st choice
+  pub taken : (mv : Move) → IsChosen choice mv → MayMove st mv → IsKnown going ended (move_result p lim st mv).0
+
+-- so it is of each run that was found, of those before this place
 abbrev pub IsClosedBelow : Program → Bounds → List FoundRun → List WholeRun → ℕ → Type 0
 IsClosedBelow p lim going ended bound =
-    (at : ℕ) (run : FoundRun) (mv : Move) → at < bound → slice_get going at ≡ Some run → MayMove run.state mv
-    → IsKnown going ended (move_result p lim run.state mv).0
+    (at : ℕ) (run : FoundRun) → at < bound → slice_get going at ≡ Some run → IsTakenFrom p lim going ended run.state

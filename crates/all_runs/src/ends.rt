@@ -1,5 +1,6 @@
 //! How all runs of a program can end.
 ghost use Rattle.std.specs.Prelude.{◌≡◌, IfOk};
+ghost use Rattle.isolation_laws.specs.soundness.KeepsEffects.{KeepsEffects};
 ghost use Rattle.all_runs.specs.AllRuns.{ShowsAllRuns, ShowsRuns};
 ghost use Rattle.all_runs.specs.Extents.{IsExtent};
 ghost use Rattle.all_runs.specs.declared.extent.Extent.TheVariants.{All};
@@ -24,10 +25,11 @@ pub struct FoundEnds {
     pub extent: Extent,
 }
 
-/// How the runs of the program can end under these limits: a run for each way to end. The search is given up once more than `most`
+/// How the runs of an accepted program can end under these limits: a run for each way to end, but of faults perhaps not each. The search is given up once more than `most`
 /// states of runs that can go on are found, or once memory runs out; what was found until then is returned. Only if there is no
 /// memory for the first state is nothing returned. A state takes memory for a copy of it and for a journal that leads to it.
 pub fn find_ends(alloc: Global, p: &Prog, lim: Limits, most: usize) -> Result<FoundEnds, Memory>
+    requires { KeepsEffects p.now }
     ensures shows { IfOk result (λ found. ShowsRuns p.now lim found.ended) }
     ensures all { IfOk result (λ found. found.extent ≡ All → ShowsAllRuns p.now lim found.ended) }
     ensures extent { IfOk result (λ found. IsExtent most found.states found.extent) }

@@ -1,18 +1,19 @@
-//! Exploring: each legal move of each run that is found is taken, until nothing new is found.
-ghost use Rattle.std.specs.Prelude.{◌≡◌, ◌<◌, ◌≤◌, length, slice_get, IfOk, IsTrue, OnOk, Some};
-ghost use Rattle.seg_journal.specs.declared.moves.Move.{Move};
+//! Exploring: enough moves of each run that is found are taken, until nothing new is found.
+ghost use Rattle.std.specs.Prelude.{◌≡◌, ◌<◌, ◌≤◌, ℕ, length, slice_get, IfOk, IsTrue, OnOk, Some};
+ghost use Rattle.seg_journal.specs.declared.moves.Kind.TheVariants.{Admit};
 ghost use Rattle.twe_base.specs.Limits.{Bounds};
 ghost use Rattle.twe_program.specs.Program.{Program};
 ghost use Rattle.twe_program.specs.WellFormed.{IsWellFormed};
-ghost use Rattle.machine_state.specs.Legal.{MayMove};
-ghost use Rattle.machine_state.specs.Moves.{move_result};
+ghost use Rattle.machine_state.specs.Legal.{MayMove, MayTake};
+ghost use Rattle.machine_state.specs.Moves.{move_result, result_by_kind};
 ghost use Rattle.machine_state.specs.Runs.{IsRun};
 ghost use Rattle.flat_sched.specs.RunEnds.{outcome_of};
 ghost use Rattle.state_copies.specs.Lasting.{IsFaultless};
 ghost use Rattle.all_runs.specs.declared.found.FoundRun.{FoundRun};
 ghost use Rattle.all_runs.specs.declared.extent.Extent.TheVariants.{All};
 ghost use Rattle.all_runs.specs.Extents.{IsExtent};
-ghost use Rattle.all_runs.specs.Explored.{AreFound, CanGoOn, HasEnded, IsClosedBelow, IsExploration, IsFoundEnd, IsKnown, IsSeen};
+ghost use Rattle.all_runs.specs.Explored.{AreFound, CanGoOn, HasEnded, IsClosedBelow, IsExploration, IsFoundEnd, IsKnown, IsSeen, IsTakenFrom};
+ghost use Rattle.reduction_laws.specs.Enough.{IsEnough};
 ghost use Rattle.all_runs.specs.inner.Growing.{Grows};
 
 use crate::extent::Extent;
@@ -22,6 +23,8 @@ use crate::successor::with_move;
 use crate::ways_to_end::is_found_end;
 use flat_sched::{WholeRun, run_end};
 use machine_state::State;
+use move_choices::choice_in;
+use reduction_laws::Choice;
 use seg_journal::{Journal, Kind, Limits, Move};
 use state_copies::are_alike;
 use std::alloc::Global;
@@ -55,7 +58,7 @@ impl Exploration {
         Ok(found)
     }
 
-    /// Takes each legal move of each run that is found, as long as no more than `most` runs that can go on are found, and as long as
+    /// Takes enough moves of each run that is found, as long as no more than `most` runs that can go on are found, and as long as
     /// there is memory. What was found is kept in any case.
     pub(crate) fn explore(&mut self, alloc: Global, p: &Prog, lim: Limits, most: usize) -> Extent
         requires { IsExploration p.now lim self.old.going self.old.ended }
@@ -77,7 +80,7 @@ impl Exploration {
         self.extent_at(most)
     }
 
-    /// The extent if each legal move of the first `most` runs was taken.
+    /// The extent if enough moves of the first `most` runs were taken.
     fn extent_at(&self, most: usize) -> Extent
         ensures extent { IsExtent most (length self.now.going) result }
         ensures all { result ≡ All → length self.now.going ≤ most }
@@ -88,27 +91,61 @@ impl Exploration {
         Extent::All
     }
 
-    /// Takes each legal move of the run at this place.
+    /// Takes enough moves of the run at this place.
     fn take_moves(&mut self, alloc: Global, p: &Prog, lim: Limits, at: usize) -> Result<(), Memory>
         requires there { at < length self.old.going }
         requires found { AreFound p.now lim self.old.going self.old.ended }
         ensures found { AreFound p.now lim self.new.going self.new.ended }
         ensures grows { Grows self.old.going self.old.ended self.new.going self.new.ended }
-        ensures taken { OnOk result ((run : FoundRun) (mv : Move) → slice_get self.old.going at ≡ Some run → MayMove run.state mv
-            → IsKnown self.new.going self.new.ended (move_result p.now lim run.state mv).0) }
+        ensures taken { OnOk result ((run : FoundRun) → slice_get self.old.going at ≡ Some run
+            → IsTakenFrom p.now lim self.new.going self.new.ended run.state) }
+    {
+        let _fuel = lim.fuel;
+        match self.choice_at(p, at) {
+            Choice::Segment(task) => {
+                let kind = Kind::Run;
+                self.take(alloc, p, lim, at, Move { kind, task })
+            }
+            Choice::Admission(task) => {
+                let kind = Kind::Admit;
+                self.take(alloc, p, lim, at, Move { kind, task })
+            }
+            Choice::EachAdmission => self.take_admissions(alloc, p, lim, at),
+        }
+    }
+
+    /// Enough moves of the run at this place.
+    fn choice_at(&self, p: &Prog, at: usize) -> Choice
+        requires there { at < length self.now.going }
+        requires found { (lim : Bounds) × AreFound p.now lim self.now.going self.now.ended }
+        ensures { (run : FoundRun) → slice_get self.now.going at ≡ Some run → IsEnough p.now run.state result }
+    {
+        let _main = p.main;
+        match self.going.get(at) {
+            None => Choice::EachAdmission,
+            Some(run) => choice_in(p, &run.state),
+        }
+    }
+
+    /// Takes each admission of the run at this place that is legal.
+    fn take_admissions(
+        &mut self,
+        alloc: Global,
+        p: &Prog,
+        lim: Limits,
+        at: usize,
+    ) -> Result<(), Memory>
+        requires there { at < length self.old.going }
+        requires found { AreFound p.now lim self.old.going self.old.ended }
+        ensures found { AreFound p.now lim self.new.going self.new.ended }
+        ensures grows { Grows self.old.going self.old.ended self.new.going self.new.ended }
+        ensures taken { OnOk result ((run : FoundRun) (t : ℕ) → slice_get self.old.going at ≡ Some run → MayTake run.state Admit t
+            → IsKnown self.new.going self.new.ended (result_by_kind p.now lim run.state Admit t).0) }
     {
         let tasks = self.task_count(at);
         for task in 0..tasks {
-            let admission = Move {
-                kind: Kind::Admit,
-                task,
-            };
-            self.take(alloc, p, lim, at, admission)?;
-            let segment = Move {
-                kind: Kind::Run,
-                task,
-            };
-            self.take(alloc, p, lim, at, segment)?;
+            let kind = Kind::Admit;
+            self.take(alloc, p, lim, at, Move { kind, task })?;
         }
         Ok(())
     }

@@ -1,7 +1,7 @@
 //! All runs of a program under given limits: how they can end.
 //!
-//! Each legal move of each state that is found is taken. No scheduler takes part, so what is found holds of each of them. How an end
-//! is written is left to the crates above.
+//! Enough moves of each state that is found are taken, so that no way to end is lost. No scheduler takes part, so what is found holds of
+//! each of them. How an end is written is left to the crates above.
 #![tactic(auto)]
 
 mod ends;
