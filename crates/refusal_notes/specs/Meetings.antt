@@ -70,17 +70,27 @@ condition_text variables (given ∷ values) = codes " if " ++ (given_text variab
 abbrev pub more_named_texts : List written.Name → List ParamValue → List ℕ
 more_named_texts variables values = flat_map (λ given. codes " and " ++ named_text variables given.param) values
 
--- the verb after the names of one parameter and of these
-abbrev pub verb_text : List ParamValue → List ℕ
-verb_text [] = codes " is: "
-verb_text (given ∷ values) = codes " are: "
+-- that the effects meet whatever this parameter is
+unfoldable pub whatever_one : List written.Name → ParamValue → List ℕ
+whatever_one variables given = codes "whatever " ++ named_text variables given.param
 
--- that the effects meet for all values of these parameters: "the effects meet whatever `i` and `j` are: "
+-- the same of a parameter and of others
+unfoldable pub whatever_all : List written.Name → ParamValue → List ParamValue → List ℕ
+whatever_all variables given values = whatever_one variables given ++ more_named_texts variables values
+
+-- the verb after the names of one parameter and of these
+unfoldable pub verb_text : List ParamValue → List ℕ
+verb_text [] = codes " is, the effects meet: "
+verb_text (given ∷ values) = codes " are, the effects meet: "
+
+-- that the effects meet for all values of a parameter and of others: "whatever `i` and `j` are, the effects meet: "
+unfoldable pub all_values_of : List written.Name → ParamValue → List ParamValue → List ℕ
+all_values_of variables given values = whatever_all variables given values ++ verb_text values
+
+-- the same of these parameters, if there are any
 abbrev pub all_values_text : List written.Name → List ParamValue → List ℕ
 all_values_text variables [] = []
-all_values_text variables (given ∷ values) =
-    codes "the effects meet whatever "
-    ++ (named_text variables given.param ++ (more_named_texts variables values ++ verb_text values))
+all_values_text variables (given ∷ values) = all_values_of variables given values
 
 -- the same, if it is so
 abbrev pub whatever_text : List written.Name → Bool → List ParamValue → List ℕ
@@ -97,15 +107,22 @@ abbrev pub quoted_path : List (List ℕ) → List Elem → List ℕ
 quoted_path regions elems = codes "`" ++ (path_text regions [] elems ++ codes "`")
 
 -- a path between accents, with its variables and its star
-abbrev pub quoted_written : List (List ℕ) → List written.Name → WrittenPath → List ℕ
+unfoldable pub quoted_written : List (List ℕ) → List written.Name → WrittenPath → List ℕ
 quoted_written regions variables path = codes "`" ++ (starred_path_text regions variables path ++ codes "`")
+
+-- the paths of both effects: that of the spawned task, and that of what is needed
+unfoldable pub both_paths_text : List (List ℕ) → List written.Name → Effect → Effect → List ℕ
+both_paths_text regions variables need other =
+    quoted_written regions variables other.path ++ (codes " and " ++ quoted_written regions variables need.path)
+
+-- what the rule does not know
+unfoldable pub unknown_end : List written.Name → ℕ → List ℕ
+unknown_end variables local = codes " apart: it takes " ++ (named_text variables local ++ codes " as unknown")
 
 -- the effects meet, or not, by the value of this local, which the rule does not know
 abbrev pub unknown_text : List (List ℕ) → List written.Name → ℕ → Effect → Effect → List ℕ
 unknown_text regions variables local need other =
-    codes "the rule cannot tell " ++ (quoted_written regions variables other.path
-    ++ (codes " and " ++ (quoted_written regions variables need.path
-    ++ (codes " apart: it takes " ++ (named_text variables local ++ codes " as unknown")))))
+    codes "the rule cannot tell " ++ (both_paths_text regions variables need other ++ unknown_end variables local)
 
 -- the effects meet nowhere
 abbrev pub nowhere_text : List ℕ

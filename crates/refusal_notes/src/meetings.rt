@@ -4,7 +4,7 @@ ghost use Rattle.std.specs.List.{All, flat_map};
 ghost use Rattle.effect_meeting.specs.Always.{deciding_local};
 ghost use Rattle.effect_meeting.specs.Cells.{IsNeverMet};
 ghost use Rattle.explain_pages.specs.names.Variables.{is_same_place};
-ghost use Rattle.refusal_notes.specs.Meetings.{IsMeetingTold, MeetingDue, ParametersDecide, all_values_text, cell_index_text, cell_met_text, condition_text, given_text, more_given_texts, more_named_texts, named_text, nowhere_text, params_at, quoted_path, quoted_written, touch_text, unknown_text, verb_text, whatever_text, writers_text};
+ghost use Rattle.refusal_notes.specs.Meetings.{IsMeetingTold, MeetingDue, ParametersDecide, all_values_of, all_values_text, both_paths_text, cell_index_text, cell_met_text, condition_text, given_text, more_given_texts, more_named_texts, named_text, nowhere_text, params_at, quoted_path, quoted_written, touch_text, unknown_end, unknown_text, verb_text, whatever_all, whatever_one, whatever_text, writers_text};
 
 use effect_meeting::{
     CellMet, Met, ParamValue, always_interfere, deciding_local, first_cell, meeting_path,
@@ -145,17 +145,55 @@ fn push_more_named(
     Ok(())
 }
 
-/// The verb after the names of one parameter and of these.
-fn verb_text(values: &[ParamValue]) -> &'static [u8]
-    ensures { result.now ≡ verb_text values.now }
+/// Appends that the effects meet whatever this parameter is.
+#[tactic(auto, unfolding(crate::specs::Meetings::whatever_one))]
+fn push_whatever_one(text: &mut Bytes, variables: &[Name], given: ParamValue) -> Result<(), Memory>
+    ensures { OnOk result (text.new ≡ text.old ++ whatever_one variables.now given) }
+{
+    text.push_all(b"whatever ")?;
+    push_named(text, variables, given.param)
+}
+
+/// Appends the same of a parameter and of others.
+#[tactic(auto, unfolding(crate::specs::Meetings::whatever_all))]
+fn push_whatever_all(
+    text: &mut Bytes,
+    variables: &[Name],
+    given: ParamValue,
+    others: &[ParamValue],
+) -> Result<(), Memory>
+    ensures { OnOk result (text.new ≡ text.old ++ whatever_all variables.now given others.now) }
+{
+    push_whatever_one(text, variables, given)?;
+    push_more_named(text, variables, others)
+}
+
+/// Appends the verb after the names of one parameter and of these.
+#[tactic(auto, unfolding(crate::specs::Meetings::verb_text))]
+fn push_verb(text: &mut Bytes, values: &[ParamValue]) -> Result<(), Memory>
+    ensures { OnOk result (text.new ≡ text.old ++ verb_text values.now) }
 {
     match values {
-        [] => b" is: ",
-        [_, ..] => b" are: ",
+        [] => text.push_all(b" is, the effects meet: "),
+        [_, ..] => text.push_all(b" are, the effects meet: "),
     }
 }
 
-/// Appends that the effects meet for all values of these parameters, if there are any.
+/// Appends that the effects meet for all values of a parameter and of others.
+#[tactic(auto, unfolding(crate::specs::Meetings::all_values_of))]
+fn push_all_values_of(
+    text: &mut Bytes,
+    variables: &[Name],
+    given: ParamValue,
+    others: &[ParamValue],
+) -> Result<(), Memory>
+    ensures { OnOk result (text.new ≡ text.old ++ all_values_of variables.now given others.now) }
+{
+    push_whatever_all(text, variables, given, others)?;
+    push_verb(text, others)
+}
+
+/// Appends the same of these parameters, if there are any.
 fn push_all_values(
     text: &mut Bytes,
     variables: &[Name],
@@ -165,12 +203,7 @@ fn push_all_values(
 {
     match values {
         [] => Ok(()),
-        [given, others @ ..] => {
-            text.push_all(b"the effects meet whatever ")?;
-            push_named(text, variables, given.param)?;
-            push_more_named(text, variables, others)?;
-            text.push_all(verb_text(others))
-        }
+        [given, others @ ..] => push_all_values_of(text, variables, *given, others),
     }
 }
 
@@ -222,6 +255,7 @@ fn quoted_path(alloc: Global, regions: &[Word], elems: &[Elem]) -> Result<Bytes,
 }
 
 /// Appends a path between accents, with its variables and its star.
+#[tactic(auto, unfolding(crate::specs::Meetings::quoted_written))]
 fn push_written(
     text: &mut Bytes,
     regions: &[Word],
@@ -233,6 +267,32 @@ fn push_written(
     text.push(b'`')?;
     push_starred_path(text, regions, variables, path)?;
     text.push(b'`')
+}
+
+/// Appends the paths of both effects: that of the spawned task, and that of what is needed.
+#[tactic(auto, unfolding(crate::specs::Meetings::both_paths_text))]
+fn push_both_paths(
+    text: &mut Bytes,
+    regions: &[Word],
+    variables: &[Name],
+    need: &Effect,
+    other: &Effect,
+) -> Result<(), Memory>
+    ensures { OnOk result (text.new ≡ text.old ++ both_paths_text regions.now variables.now need.now other.now) }
+{
+    push_written(text, regions, variables, &other.path)?;
+    text.push_all(b" and ")?;
+    push_written(text, regions, variables, &need.path)
+}
+
+/// Appends what the rule does not know.
+#[tactic(auto, unfolding(crate::specs::Meetings::unknown_end))]
+fn push_unknown_end(text: &mut Bytes, variables: &[Name], local: u32) -> Result<(), Memory>
+    ensures { OnOk result (text.new ≡ text.old ++ unknown_end variables.now local) }
+{
+    text.push_all(b" apart: it takes ")?;
+    push_named(text, variables, local)?;
+    text.push_all(b" as unknown")
 }
 
 /// That the effects meet, or not, by the value of this local, which the rule does not know.
@@ -247,12 +307,8 @@ fn unknown_text(
     ensures { IfOk result (λ text. text ≡ unknown_text regions.now variables.now local need.now other.now) }
 {
     let mut text = Bytes::from_slice(alloc, b"the rule cannot tell ")?;
-    push_written(&mut text, regions, variables, &other.path)?;
-    text.push_all(b" and ")?;
-    push_written(&mut text, regions, variables, &need.path)?;
-    text.push_all(b" apart: it takes ")?;
-    push_named(&mut text, variables, local)?;
-    text.push_all(b" as unknown")?;
+    push_both_paths(&mut text, regions, variables, need, other)?;
+    push_unknown_end(&mut text, variables, local)?;
     Ok(text)
 }
 

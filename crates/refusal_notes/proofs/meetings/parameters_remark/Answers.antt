@@ -11,4 +11,4 @@ returns-in_ok-text-in-Some c =
     let Due = MeetingDue c.args.regions.now c.args.cells.now c.args.variables.now c.args.shared c.args.need.now c.args.other.now in
     let there : IfSome c.in_ok-first_cell.field-0 First = c.in_ok-first_cell.ensures.found in
     let met : First c.in-Some.met = subst (λ (o : Option CellMet). IfSome o First) c.in-Some.is there in
-    subst (λ (text : List ℕ). Due text) (sym c.in_ok-text-in-Some.ensures) (MeetingDue.at_cell c.in_ok-always.result c.in-Some.met (record { no_local = c.requires; always_is = c.in_ok-always.ensures }) met)
+    subst (λ (text : List ℕ). Due text) (sym c.in_ok-text-in-Some.ensures) (MeetingDue.at_cell c.in_ok-always.always c.in-Some.met (record { no_local = c.requires; always_is = c.in_ok-always.ensures }) met)
