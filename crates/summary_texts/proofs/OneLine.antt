@@ -9,7 +9,7 @@ use Rattle.effect_infer.specs.needs.Needs.{effect_of}
 use Rattle.effect_infer.specs.Kept.{AreDistinct}
 use Rattle.effect_infer.specs.Inferred.{HasTooMany, IsLeast}
 use Rattle.twe_base.proofs.Members.{IsIn, contains-in, in-cases, in-contains, in-left, in-right}
-use Rattle.summary_texts.proofs.paste_laws.places.Lists.{in-map, map-in}
+use Rattle.moved_places.proofs.Lists.{in-map, map-in}
 use Rattle.summary_texts.specs.Order.{Ascend, summary_paths_of}
 use Rattle.summary_texts.proofs.Ascending.{needs-ascend, one-list}
 use Rattle.summary_texts.proofs.Inserting.{Has, in-paths, paths-from}

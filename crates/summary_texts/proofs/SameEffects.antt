@@ -9,7 +9,7 @@ use Rattle.twe_program.specs.Program.{Program}
 use Rattle.effect_infer.specs.needs.Needs.{effect_of}
 use Rattle.effect_infer.specs.Inferred.{IsLeast, AreLeast}
 use Rattle.twe_base.proofs.Members.{IsIn, contains-in, in-contains, in-cases, in-left, in-right}
-use Rattle.summary_texts.proofs.paste_laws.places.Lists.{in-map, map-in}
+use Rattle.moved_places.proofs.Lists.{in-map, map-in}
 use Rattle.summary_texts.specs.paste_laws.Pasted.{HaveSameEffects}
 use Rattle.summary_texts.specs.Order.{summary_paths_of}
 use Rattle.summary_texts.specs.Pasting.{effect_on, in_line}

@@ -35,7 +35,7 @@ use Rattle.name_check.specs.Ends.{one_ends}
 use Rattle.twe_names.specs.Meaning.{regions_of_item, cells_from, methods_of_item, tasks_of_item, program_of}
 use Rattle.effect_infer.specs.needs.Choices.{with_summaries}
 use Rattle.twe_base.proofs.Members.{IsIn, contains-in, in-contains, in-right, all-in}
-use Rattle.summary_texts.proofs.paste_laws.places.Lists.{map-in}
+use Rattle.moved_places.proofs.Lists.{map-in}
 use Rattle.summary_texts.specs.paste_laws.Clauses.{texts_of, elem_of, clause_path_of, pasted}
 use Rattle.summary_texts.proofs.paste_laws.Names.{Keeps}
 use Rattle.summary_texts.proofs.paste_laws.Clauses.{AskFits, in_clauses, clauses-length, clauses-in, path-no-star, IsPlainEffect, plain_path_of, plain-path}

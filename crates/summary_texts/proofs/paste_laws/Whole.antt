@@ -20,11 +20,11 @@ use Rattle.effect_infer.specs.needs.Choices.{HasNeeds, NoRuleFails, with_summari
 use Rattle.effect_infer.specs.Inferred.{AreLeast}
 use Rattle.twe_base.proofs.Members.{IsIn, contains-in, in-contains}
 use Rattle.ast_printer.specs.BareItem as trees
-use Rattle.summary_texts.proofs.paste_laws.places.Lists.{map-in}
+use Rattle.moved_places.proofs.Lists.{map-in}
 use Rattle.summary_texts.specs.paste_laws.places.Places.{bare_program}
 use Rattle.summary_texts.specs.paste_laws.Clauses.{CanBeWritten, pasted}
 use Rattle.summary_texts.specs.paste_laws.Pasted.{HaveSameEffects, IsPasted, CanBePasted}
-use Rattle.summary_texts.proofs.paste_laws.places.Rules.{fails-alike}
+use Rattle.summary_texts.proofs.paste_laws.places.Alike.{fails-alike}
 use Rattle.summary_texts.proofs.paste_laws.Orders.{order-apart}
 use Rattle.summary_texts.proofs.paste_laws.Names.{Keeps}
 use Rattle.summary_texts.proofs.paste_laws.Clauses.{in_clauses, clauses-in, in-clauses}

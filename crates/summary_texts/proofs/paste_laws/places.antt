@@ -1,13 +1,5 @@
-pub mod Lists
 pub mod Acts
-pub mod ControlPaths
-pub mod Rules
-pub mod Bindings
-pub mod Asks
-pub mod Sites
-pub mod Items
-pub mod Cells
-pub mod NameRules
-pub mod Bodies
-pub mod Meanings
+pub mod BareTrees
+pub mod BarePrograms
+pub mod Alike
 pub mod Texts

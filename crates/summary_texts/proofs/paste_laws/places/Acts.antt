@@ -1,31 +1,12 @@
--- What a body does, without places, is what the body without places does.
-use Rattle.std.proofs.Common.{◌≡◌, ℕ, Bool, true, false, List, [], ◌∷◌, ◌++◌, map, Option, None, Some, zero, suc, refl, sym, ap, ◌∙◌}
+-- What the rules see of an expression and of a cell does not depend on places.
+use Rattle.std.proofs.Common.{◌≡◌, ℕ, true, false, List, [], ◌∷◌, map, zero, suc, refl, ap, ◌∙◌}
 use Rattle.std.specs.Prelude.{slice_get}
-use Rattle.std.proofs.lemmas.List.{map-append}
 use Rattle.region_paths.specs.declared.elements.Elem.{Elem}
-use Rattle.region_paths.specs.Written.{WrittenPath}
-use Rattle.effect_sets.specs.declared.effects.Summary.{Summary}
 use Rattle.twe_program.specs.declared.program.CellDecl.{CellDecl}
-use Rattle.twe_program.specs.declared.program.Decl.{Decl}
-use Rattle.twe_program.specs.Program.{Program}
 use Rattle.twe_program.specs.Expression.{Expression, Literal, Truth, Variable, CellValue, ArrayElement, GridElement, CallValue, Negative, Negation, Binary, Arguments, argument}
 use Rattle.twe_program.specs.Expression as args
-use Rattle.twe_program.specs.Statement.{Statement, Block, Let, Set, SetCell, SetArray, SetGrid, If, While, Return, Print, Call, Make, Wait, Statements, no_more, statement, Arms, arm, otherwise, no_else}
-use Rattle.effect_check.specs.declared.act.Act.{Act}
-use Rattle.effect_check.specs.declared.act.ActKind.{ActKind}
-use Rattle.effect_check.specs.declared.act.ActKind.TheVariants as kinds
-use Rattle.effect_check.specs.Standing.{element_of_index, elements_of, elements_from, path_at}
-use Rattle.effect_check.specs.Acts.{filled_summary, is_deterministic, touch, call, make, acts_of, acts_of_all, acts_of_value, acts_in, acts_in_all, acts_in_one}
-use Rattle.summary_texts.specs.paste_laws.places.Places.{no_place, bare_expression, bare_arguments, placeless_value, bare_statement, bare_statements, bare_arms, placeless_cell, placeless_decl, bare_program}
-
-abbrev pub bare_kind : ActKind → ActKind
-bare_kind (kinds.Touch effect place) = kinds.Touch effect no_place
-bare_kind (kinds.Call effects place) = kinds.Call effects no_place
-bare_kind (kinds.Make future spawned deterministic effects future_place place) = kinds.Make future spawned deterministic effects no_place no_place
-bare_kind (kinds.Wait future join place) = kinds.Wait future join no_place
-
-abbrev pub bare_act : Act → Act
-bare_act act = record { point = act.point; kind = bare_kind act.kind }
+use Rattle.effect_check.specs.Standing.{element_of_index, elements_of, elements_from}
+use Rattle.summary_texts.specs.paste_laws.places.Places.{bare_expression, bare_arguments, placeless_cell}
 
 -- what the rules see of an expression has no place
 pub same_element : (e : Expression) → element_of_index (bare_expression e) ≡ element_of_index e
@@ -46,104 +27,8 @@ same_elements args.no_more = refl
 same_elements (argument first others) =
     ap (λ (e : Elem). e ∷ elements_of (bare_arguments others)) (same_element first) ∙ ap (λ (es : List Elem). element_of_index first ∷ es) (same_elements others)
 
--- nor have the paths of cells and the effects of declarations
+-- nor have the paths of cells
 pub same_cell : (cells : List CellDecl) (n : ℕ) → elements_from (slice_get (map placeless_cell cells) n) ≡ elements_from (slice_get cells n)
 same_cell [] n = refl
 same_cell (cell ∷ cells) zero = refl
 same_cell (cell ∷ cells) (suc n) = same_cell cells n
-
-same_effects : (decls : List Decl) (n : ℕ) (es : List Elem) → filled_summary (slice_get (map placeless_decl decls) n) es ≡ filled_summary (slice_get decls n) es
-same_effects [] n es = refl
-same_effects (decl ∷ decls) zero es = refl
-same_effects (decl ∷ decls) (suc n) es = same_effects decls n es
-
-same_determinism : (decls : List Decl) (n : ℕ) → is_deterministic (slice_get (map placeless_decl decls) n) ≡ is_deterministic (slice_get decls n)
-same_determinism [] n = refl
-same_determinism (decl ∷ decls) zero = refl
-same_determinism (decl ∷ decls) (suc n) = same_determinism decls n
-
-module _ (p : Program) where
-  touched : (point : ℕ) (write : Bool) (cell : ℕ) (xs ys : List Elem) → xs ≡ ys
-      → touch point write (path_at (bare_program p) cell xs) no_place ≡ touch point write (path_at p cell ys) no_place
-  touched point write cell xs ys e =
-      ap (λ (es : List Elem). let path : WrittenPath = record { elems = es ++ xs; star = false; tail = [] } in touch point write path no_place) (same_cell p.cells cell)
-      ∙ ap (λ (es : List Elem). touch point write (path_at p cell es) no_place) e
-
-  called : (point method : ℕ) (given : Arguments) → call (bare_program p) point method (bare_arguments given) no_place ≡ call p point method given no_place
-  called point method given =
-      let with : Summary → Act = λ effects. record { point = point; kind = kinds.Call effects no_place } in
-      ap with (same_effects p.methods method (elements_of (bare_arguments given)) ∙ ap (filled_summary (slice_get p.methods method)) (same_elements given))
-
-  made : (point future task : ℕ) (given : Arguments) (spawned : Bool)
-      → make (bare_program p) point future task (bare_arguments given) spawned no_place no_place ≡ make p point future task given spawned no_place no_place
-  made point future task given spawned =
-      let with : Bool → Summary → Act = λ deterministic effects. record { point = point; kind = kinds.Make future spawned deterministic effects no_place no_place } in
-      ap (λ (b : Bool). with b (filled_summary (slice_get (map placeless_decl p.tasks) task) (elements_of (bare_arguments given)))) (same_determinism p.tasks task)
-      ∙ ap (with (is_deterministic (slice_get p.tasks task)))
-      (same_effects p.tasks task (elements_of (bare_arguments given)) ∙ ap (filled_summary (slice_get p.tasks task)) (same_elements given))
-
-  -- an act and those after it, and two parts
-  first : (a b : Act) (xs ys : List Act) → a ≡ b → xs ≡ ys → ◌≡◌ {A = List Act} (a ∷ xs) (b ∷ ys)
-  first a b xs ys e f = ap (λ (c : Act). c ∷ xs) e ∙ ap (λ (zs : List Act). b ∷ zs) f
-
-  both : (xs ys us vs : List Act) → xs ≡ map bare_act us → ys ≡ map bare_act vs → xs ++ ys ≡ map bare_act (us ++ vs)
-  both xs ys us vs e f =
-      ap (λ (zs : List Act). zs ++ ys) e ∙ ap (λ (zs : List Act). map bare_act us ++ zs) f ∙ sym (map-append bare_act us vs)
-
-  mutual
-    of-expression : (point : ℕ) (e : Expression) → acts_of (bare_program p) point (bare_expression e) ≡ map bare_act (acts_of p point e)
-    of-expression point (Literal value) = refl
-    of-expression point (Truth value) = refl
-    of-expression point (Variable var fixed) = refl
-    of-expression point (CellValue cell place) = first _ _ _ _ (touched point false cell [] [] refl) refl
-    of-expression point (ArrayElement array index place) =
-        first _ _ _ _ (touched point false array _ _ (ap (λ (e : Elem). e ∷ []) (same_element index))) (of-expression point index)
-    of-expression point (GridElement array row column place) =
-        first _ _ _ _ (touched point false array _ _ (ap (λ (e : Elem). e ∷ element_of_index (bare_expression column) ∷ []) (same_element row) ∙ ap (λ (e : Elem). element_of_index row ∷ e ∷ []) (same_element column)))
-        (both _ _ (acts_of p point row) (acts_of p point column) (of-expression point row) (of-expression point column))
-    of-expression point (CallValue method given place) = first _ _ _ _ (called point method given) (of-arguments point given)
-    of-expression point (Negative operand) = of-expression point operand
-    of-expression point (Negation operand) = of-expression point operand
-    of-expression point (Binary op left right place) =
-        both _ _ (acts_of p point left) (acts_of p point right) (of-expression point left) (of-expression point right)
-
-    of-arguments : (point : ℕ) (es : Arguments) → acts_of_all (bare_program p) point (bare_arguments es) ≡ map bare_act (acts_of_all p point es)
-    of-arguments point args.no_more = refl
-    of-arguments point (argument one others) = both _ _ (acts_of p point one) (acts_of_all p point others) (of-expression point one) (of-arguments point others)
-
-  of-value : (point : ℕ) (value : Option Expression) → acts_of_value (bare_program p) point (placeless_value value) ≡ map bare_act (acts_of_value p point value)
-  of-value point None = refl
-  of-value point (Some value) = of-expression point value
-
-  mutual
-    of-statement : (s : Statement) → acts_in (bare_program p) (bare_statement s) ≡ map bare_act (acts_in p s)
-    of-statement (Block point body) = of-statements body
-    of-statement (Let point var value) = of-expression point value
-    of-statement (Set point var value) = of-expression point value
-    of-statement (SetCell point cell value place) = first _ _ _ _ (touched point true cell [] [] refl) (of-expression point value)
-    of-statement (SetArray point array index value place) =
-        first _ _ _ _ (touched point true array _ _ (ap (λ (e : Elem). e ∷ []) (same_element index)))
-        (both _ _ (acts_of p point index) (acts_of p point value) (of-expression point index) (of-expression point value))
-    of-statement (SetGrid point array row column value place) =
-        first _ _ _ _ (touched point true array _ _ (ap (λ (e : Elem). e ∷ element_of_index (bare_expression column) ∷ []) (same_element row) ∙ ap (λ (e : Elem). element_of_index row ∷ e ∷ []) (same_element column)))
-        (both _ _ (acts_of p point row) (acts_of p point column ++ acts_of p point value) (of-expression point row)
-        (both _ _ (acts_of p point column) (acts_of p point value) (of-expression point column) (of-expression point value)))
-    of-statement (If point arms) = of-arms point arms
-    of-statement (While point condition body place) =
-        both _ _ (acts_of p point condition) (acts_in_all p body) (of-expression point condition) (of-statements body)
-    of-statement (Return point value) = of-value point value
-    of-statement (Print point value place) = first _ _ _ _ refl (of-expression point value)
-    of-statement (Call point method given place) = first _ _ _ _ (called point method given) (of-arguments point given)
-    of-statement (Make point future task given spawned future_place place) = first _ _ _ _ (made point future task given spawned) (of-arguments point given)
-    of-statement (Wait point future join into place) = refl
-
-    pub of-statements : (ss : Statements) → acts_in_all (bare_program p) (bare_statements ss) ≡ map bare_act (acts_in_all p ss)
-    of-statements no_more = refl
-    of-statements (statement one others) = both _ _ (acts_in p one) (acts_in_all p others) (of-statement one) (of-statements others)
-
-    of-arms : (point : ℕ) (arms : Arms) → acts_in_one (bare_program p) point (bare_arms arms) ≡ map bare_act (acts_in_one p point arms)
-    of-arms point (arm condition body others) =
-        both _ _ (acts_of p point condition) (acts_in_all p body ++ acts_in_one p point others) (of-expression point condition)
-        (both _ _ (acts_in_all p body) (acts_in_one p point others) (of-statements body) (of-arms point others))
-    of-arms point (otherwise body) = of-statements body
-    of-arms point no_else = refl

@@ -11,9 +11,7 @@ use Rattle.ast_printer.specs.BareItem.{EqualButForPlaces}
 use Rattle.ast_printer.specs.ItemTokens.{printed_tokens}
 use Rattle.ast_printer.proofs.ParsedAgain.{parses_again}
 use Rattle.summary_texts.specs.paste_laws.places.Places as programs
-use Rattle.summary_texts.proofs.paste_laws.places.NameRules.{names-alike}
-use Rattle.summary_texts.proofs.paste_laws.places.Meanings.{meanings-alike}
-use Rattle.summary_texts.proofs.paste_laws.places.Rules.{fails-alike}
+use Rattle.summary_texts.proofs.paste_laws.places.Alike.{names-alike, meanings-alike, fails-alike}
 
 -- a text means a program, if its tree is equal except for places to one that does
 pub meant-alike : (tree its : Ast) (other : List ℕ) → EqualButForPlaces tree its → IsTreeOf other its
