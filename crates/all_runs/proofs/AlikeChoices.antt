@@ -14,7 +14,7 @@ use Rattle.machine_state.specs.Rows.{HasStatus, IsRow, is_done_row, is_done_stat
 use Rattle.reduction_laws.specs.declared.choice.Choice.{Choice}
 use Rattle.reduction_laws.specs.declared.choice.Choice.TheVariants.{Admission, EachAdmission, Segment}
 use Rattle.reduction_laws.specs.Enough.{IsEnough}
-use Rattle.reduction_laws.specs.Makes.{LeadsTo}
+use Rattle.reduction_laws.specs.Makes.{MayLeadTo}
 use Rattle.reduction_laws.specs.Meeting.{NothingMeets}
 use Rattle.state_copies.specs.Lasting.{AreAlike}
 use Rattle.all_runs.proofs.Alike.{counterpart, effects_alike, has_alike, interfere_alike, row_alike, take_alike}

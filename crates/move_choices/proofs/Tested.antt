@@ -19,7 +19,7 @@ use Rattle.machine_state.specs.declared.state.TaskStatus.TheVariants.{Done, Made
 use Rattle.machine_state.specs.segment_laws.Ready.{futures_at}
 use Rattle.machine_state.specs.Rows.{IsRow}
 use Rattle.machine_state.proofs.lists.Places.{got_one}
-use Rattle.reduction_laws.specs.Makes.{LeadsTo}
+use Rattle.reduction_laws.specs.Makes.{MayLeadTo}
 use Rattle.reduction_laws.specs.Meeting.{NothingMeets}
 use Rattle.move_choices.proofs.DeclaredApart.{at_place, declared_apart}
 

@@ -33,7 +33,7 @@ use Rattle.machine_state.proofs.standing.ReachedStands.{reached_stands}
 use Rattle.determinism_laws.proofs.Exchanged.{Ready, after_run}
 use Rattle.determinism_laws.proofs.MovedRows.{RowsAfter, made_after, rows_after}
 use Rattle.determinism_laws.proofs.NearFaults.{reached_more}
-use Rattle.reduction_laws.specs.Makes.{LeadsTo, Makes}
+use Rattle.reduction_laws.specs.Makes.{MayLeadTo, MakesTasksOf}
 use Rattle.reduction_laws.specs.Meeting.{NothingMeets}
 use Rattle.reduction_laws.proofs.Admissions.{admitted_interfere, admitted_was, after_admission, interfere_rows, rows_interfere}
 use Rattle.reduction_laws.proofs.RowFacts.{CameFrom, came_from, from_make, from_old}
@@ -75,7 +75,7 @@ module _ (p : Program) (st : State) (s t : ℕ) (differ : s ≢ t) (may_s : MayA
     later = λ u maker row other at undone here decl leads args takes meets.
         let one = was_there u maker at in
         let two = was_there t row here in
-        alone.later u one.before two.before other one.there (one.undone undone) two.there decl (subst (λ (d : ℕ). LeadsTo p d decl) (sym one.decl) leads) args takes
+        alone.later u one.before two.before other one.there (one.undone undone) two.there decl (subst (λ (d : ℕ). MayLeadTo p d decl) (sym one.decl) leads) args takes
         (subst (λ (es : List Effect). SomeInterfere (effects_at p decl args).effects es) (sym two.effects) meets);
   }
 
@@ -112,7 +112,7 @@ module _ (p : Program) (wf : IsWellFormed p) (keeps : KeepsEffects p) (lim : Bou
       by_origin (from_make is made) = let within = slice_get_within st.tasks t row_t here_t in absurd (omega (arith, is, within))
 
   -- the declaration of s makes the declaration of a task that s made
-  made_decl : (stop : Stop) → left.stop ≡ stop → (r : TaskRow) → made_after lim s stop (length st.tasks) ≡ Some r → Makes p of_s.row.decl r.decl
+  made_decl : (stop : Stop) → left.stop ≡ stop → (r : TaskRow) → made_after lim s stop (length st.tasks) ≡ Some r → MakesTasksOf p of_s.row.decl r.decl
   made_decl (stops.Make child args effects spawned future place) is r made =
       let stands = reached_stands p lim st wf reached in
       let row = of_s.row in
@@ -131,7 +131,7 @@ module _ (p : Program) (wf : IsWellFormed p) (keeps : KeepsEffects p) (lim : Bou
   made_decl (stops.Done value) is r made = absurd (cc (made))
   made_decl (stops.Fault kind place) is r made = absurd (cc (made))
 
-  makes_new : (r : TaskRow) → made_after lim s left.stop (length st.tasks) ≡ Some r → Makes p of_s.row.decl r.decl
+  makes_new : (r : TaskRow) → made_after lim s left.stop (length st.tasks) ≡ Some r → MakesTasksOf p of_s.row.decl r.decl
   makes_new r made = made_decl left.stop refl r made
 
   -- a task that s made does not interfere with t
@@ -157,7 +157,7 @@ module _ (p : Program) (wf : IsWellFormed p) (keeps : KeepsEffects p) (lim : Bou
           (rows_interfere st u t before row_t before_at here_t made.0.effects.effects (meets.1).effects.effects kept.effects (effects_t meets.1 meets.3) (met meets.1 meets.3))
       by_origin (from_make is new_made) = new_apart made.0 meets.1 new_made meets.3 (met meets.1 meets.3)
 
-  no_later : (u : ℕ) (maker row : TaskRow) → u ≢ t → IsRow new u maker → maker.status ≢ Done → IsRow new t row → (decl : ℕ) → LeadsTo p maker.decl decl
+  no_later : (u : ℕ) (maker row : TaskRow) → u ≢ t → IsRow new u maker → maker.status ≢ Done → IsRow new t row → (decl : ℕ) → MayLeadTo p maker.decl decl
       → (args : List ℤ) → TakesArguments (slice_get p.tasks decl) (length args) → ¬ SomeInterfere (effects_at p decl args).effects row.effects.effects
   no_later u maker row other at undone here decl leads args takes meets = by_origin (origin u maker at)
     where
@@ -166,7 +166,7 @@ module _ (p : Program) (wf : IsWellFormed p) (keeps : KeepsEffects p) (lim : Bou
 
       by_origin : CameFrom lim st s left u maker → ⊥
       by_origin (from_old before before_at kept) =
-          alone.later u before row_t other before_at (kept.undone undone) here_t decl (subst (λ (d : ℕ). LeadsTo p d decl) (sym kept.decl) leads) args takes met
+          alone.later u before row_t other before_at (kept.undone undone) here_t decl (subst (λ (d : ℕ). MayLeadTo p d decl) (sym kept.decl) leads) args takes met
       by_origin (from_make is made) =
           alone.later s of_s.row row_t differ of_s.here undone_s here_t decl
           (record { first = maker.decl; makes = makes_new maker made; chain = more leads.makes leads.chain }) args takes met
