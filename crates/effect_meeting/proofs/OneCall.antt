@@ -9,7 +9,7 @@ use Rattle.effect_sets.specs.declared.effects.Effect.{Effect}
 use Rattle.effect_meeting.specs.declared.equality.Term.{Term}
 use Rattle.effect_meeting.specs.declared.equality.Term.TheVariants.{Literal, First, Second}
 use Rattle.effect_meeting.specs.declared.equality.Equality.{Equality}
-use Rattle.effect_meeting.specs.Always.{AlwaysInterfere, deciding_local, first_local, holds_always, if_local, in_one_call, local_of, or_else}
+use Rattle.effect_meeting.specs.Always.{AlwaysInterfere, deciding_local, local_among, is_always_equal, if_local, in_one_call, local_of, or_else}
 use Rattle.effect_meeting.specs.Equalities.{equality_holds, equalities_hold, same_term, term_value}
 use Rattle.effect_meeting.specs.Meeting.{AgreeBelow}
 use Rattle.effect_meeting.specs.Meetings.{InterfereUnder}
@@ -128,27 +128,27 @@ module _ (shared : ℕ) where
 
   -- Equalities.
 
-  holds-if : (e : Equality) → holds_always shared e ≡ true → (v w : Valuation) → AgreeBelow shared v w → equality_holds v w e ≡ true
+  holds-if : (e : Equality) → is_always_equal shared e ≡ true → (v w : Valuation) → AgreeBelow shared v w → equality_holds v w e ≡ true
   holds-if e h v w agree =
       (Decides-int_eq (term_value v w e.left) (term_value v w e.right)).1
       (sym (in-call e.left v w agree) ∙ (same-value v w (in_one_call shared e.left) (in_one_call shared e.right) h ∙ in-call e.right v w agree))
 
-  only-if : (e : Equality) → ((v w : Valuation) → AgreeBelow shared v w → equality_holds v w e ≡ true) → holds_always shared e ≡ true
+  only-if : (e : Equality) → ((v w : Valuation) → AgreeBelow shared v w → equality_holds v w e ≡ true) → is_always_equal shared e ≡ true
   only-if e h =
       same-if (in_one_call shared e.left) (in_one_call shared e.right) (of-call e.left) (of-call e.right)
       (λ v w agree. in-call e.left v w agree ∙ ((Decides-int_eq (term_value v w e.left) (term_value v w e.right)).0 (h v w agree) ∙ sym (in-call e.right v w agree)))
 
-  all-if : (es : List Equality) → list_all (holds_always shared) es ≡ true → (v w : Valuation) → AgreeBelow shared v w → equalities_hold v w es ≡ true
+  all-if : (es : List Equality) → list_all (is_always_equal shared) es ≡ true → (v w : Valuation) → AgreeBelow shared v w → equalities_hold v w es ≡ true
   all-if [] h v w agree = refl
   all-if (e ∷ es) h v w agree = let both = and_parts _ _ h in and_from _ _ (holds-if e both.0 v w agree) (all-if es both.1 v w agree)
 
-  all-only-if : (es : List Equality) → ((v w : Valuation) → AgreeBelow shared v w → equalities_hold v w es ≡ true) → list_all (holds_always shared) es ≡ true
+  all-only-if : (es : List Equality) → ((v w : Valuation) → AgreeBelow shared v w → equalities_hold v w es ≡ true) → list_all (is_always_equal shared) es ≡ true
   all-only-if [] h = refl
   all-only-if (e ∷ es) h =
       and_from _ _ (only-if e (λ v w agree. (and_parts _ _ (h v w agree)).0)) (all-only-if es (λ v w agree. (and_parts _ _ (h v w agree)).1))
 
   -- the equalities of two effects always hold exactly if the effects always interfere
-  pub always-exact : (a b : Effect) → IsTrue (list_all (holds_always shared) (effect_equalities a b)) ↔ AlwaysInterfere shared a b
+  pub always-exact : (a b : Effect) → IsTrue (list_all (is_always_equal shared) (effect_equalities a b)) ↔ AlwaysInterfere shared a b
   always-exact a b = (
     λ h v w agree. (interfere-exact v w a b).0 (all-if (effect_equalities a b) h v w agree),
     λ h. all-only-if (effect_equalities a b) (λ v w agree. (interfere-exact v w a b).1 (h v w agree)),
@@ -178,7 +178,7 @@ module _ (shared : ℕ) (v w later_v later_w : Valuation) (one : AgreeBelow shar
   same-term-value (First k) h = sym (two k (parameter k h))
   same-term-value (Second k) h = sym (three k (parameter k h)) ∙ one k (parameter k h)
 
-  same-holds : (es : List Equality) → first_local shared es ≡ None → equalities_hold later_v later_w es ≡ equalities_hold v w es
+  same-holds : (es : List Equality) → local_among shared es ≡ None → equalities_hold later_v later_w es ≡ equalities_hold v w es
   same-holds [] h = refl
   same-holds (e ∷ es) h =
       let here = no-first _ _ h in

@@ -22,8 +22,8 @@ in_one_call shared (First k) = First k
 in_one_call shared (Second k) = if nat_lt k shared then First k else Second k
 
 -- the equality holds for all values
-abbrev pub holds_always : ℕ → Equality → Bool
-holds_always shared e = same_term (in_one_call shared e.left) (in_one_call shared e.right)
+abbrev pub is_always_equal : ℕ → Equality → Bool
+is_always_equal shared e = same_term (in_one_call shared e.left) (in_one_call shared e.right)
 
 -- the number of the variable, if it is a local: one that is no parameter
 abbrev pub if_local : ℕ → ℕ → Option ℕ
@@ -45,10 +45,10 @@ abbrev pub local_in : ℕ → Equality → Option ℕ
 local_in shared e = or_else (local_of shared e.left) (local_of shared e.right)
 
 -- the first local that stands in the equalities
-abbrev pub first_local : ℕ → List Equality → Option ℕ
-first_local shared [] = None
-first_local shared (e ∷ es) = or_else (local_in shared e) (first_local shared es)
+abbrev pub local_among : ℕ → List Equality → Option ℕ
+local_among shared [] = None
+local_among shared (e ∷ es) = or_else (local_in shared e) (local_among shared es)
 
 -- the first local whose value says whether the effects interfere: it stands against an index that is not any index
 abbrev pub deciding_local : ℕ → Effect → Effect → Option ℕ
-deciding_local shared a b = first_local shared (effect_equalities a b)
+deciding_local shared a b = local_among shared (effect_equalities a b)

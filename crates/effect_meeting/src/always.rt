@@ -1,7 +1,7 @@
 //! Whether two effects interfere whatever the arguments of a call are, and which local that depends on.
 ghost use Rattle.std.specs.Prelude.{◌≡◌, ◌↔◌, IfOk, IsTrue};
 ghost use Rattle.std.specs.List.{list_all};
-ghost use Rattle.effect_meeting.specs.Always.{AlwaysInterfere, deciding_local, first_local, holds_always, if_local, in_one_call, local_in, local_of};
+ghost use Rattle.effect_meeting.specs.Always.{AlwaysInterfere, deciding_local, local_among, is_always_equal, if_local, in_one_call, local_in, local_of};
 
 use crate::equality::{Equality, Term, is_same_term};
 use crate::path_meeting::effect_equalities;
@@ -27,20 +27,20 @@ fn in_one_call(shared: u32, term: Term) -> Term
 }
 
 /// Whether the equality holds for all values.
-fn holds_always(shared: u32, equality: Equality) -> bool
-    ensures { result ≡ holds_always shared equality }
+fn is_always_equal(shared: u32, equality: Equality) -> bool
+    ensures { result ≡ is_always_equal shared equality }
 {
     let left = in_one_call(shared, equality.left);
     is_same_term(left, in_one_call(shared, equality.right))
 }
 
 /// Whether the equalities hold for all values.
-fn hold_always(shared: u32, equalities: &[Equality]) -> bool
-    ensures { result ≡ list_all (holds_always shared) equalities.now }
+fn are_always_equal(shared: u32, equalities: &[Equality]) -> bool
+    ensures { result ≡ list_all (is_always_equal shared) equalities.now }
 {
     equalities
         .iter()
-        .all(|equality| holds_always(shared, *equality))
+        .all(|equality| is_always_equal(shared, *equality))
 }
 
 /// Whether the effects interfere for all values of their variables. The first of these, as many as are shared, are the parameters of
@@ -54,7 +54,7 @@ pub fn always_interfere(
     ensures { IfOk result (λ always. IsTrue always ↔ AlwaysInterfere shared first.now second.now) }
 {
     let equalities = effect_equalities(alloc, first, second)?;
-    Ok(hold_always(shared, equalities.as_slice()))
+    Ok(are_always_equal(shared, equalities.as_slice()))
 }
 
 /// The number of the variable, if it is a local: one that is no parameter.
@@ -86,8 +86,8 @@ fn local_in(shared: u32, equality: Equality) -> Option<u32>
 }
 
 /// The first local that stands in the equalities.
-fn first_local(shared: u32, equalities: &[Equality]) -> Option<u32>
-    ensures { result ≡ first_local shared equalities.now }
+fn local_among(shared: u32, equalities: &[Equality]) -> Option<u32>
+    ensures { result ≡ local_among shared equalities.now }
 {
     for equality in equalities {
         if let Some(number) = local_in(shared, *equality) {
@@ -108,5 +108,5 @@ pub fn deciding_local(
     ensures { IfOk result (λ local. local ≡ deciding_local shared first.now second.now) }
 {
     let equalities = effect_equalities(alloc, first, second)?;
-    Ok(first_local(shared, equalities.as_slice()))
+    Ok(local_among(shared, equalities.as_slice()))
 }

@@ -1,6 +1,6 @@
 //! The choice of moves.
 ghost use Rattle.std.specs.Prelude.{◌<◌, ◌↔◌, ℕ, IfNone, IfSome, IsTrue};
-ghost use Rattle.machine_state.specs.Legal.{MayAdmit, MayRun};
+ghost use Rattle.machine_state.specs.Legal.{MayAdmit, MayRun, MayTake};
 ghost use Rattle.machine_state.specs.Runs.{IsReachable};
 ghost use Rattle.reduction_laws.specs.Enough.{IsEnough};
 ghost use Rattle.reduction_laws.specs.Meeting.{NothingMeets};
@@ -37,23 +37,11 @@ fn lowest_that_may_run(p: &Prog, st: &State) -> Option<u32>
 {
     let _main = p.main;
     for t in 0..st.links.task_count() {
-        if may_run(p, st, t) {
+        if may_take(p, st, Kind::Run, t) {
             return Some(t);
         }
     }
     None
-}
-
-/// Whether a task may run.
-fn may_run(p: &Prog, st: &State, t: u32) -> bool
-    requires { IsReachable p.now st.now }
-    ensures { IsTrue result ↔ MayRun st.now t }
-{
-    let segment = Move {
-        kind: Kind::Run,
-        task: t,
-    };
-    may(p, st, segment).is_ok()
 }
 
 /// The lowest task that may be admitted and of which the test shows that nothing meets it.
@@ -64,21 +52,17 @@ fn lowest_alone(p: &Prog, st: &State) -> Option<u32>
 {
     let _main = p.main;
     for t in 0..st.links.task_count() {
-        if may_admit(p, st, t) && is_alone(p, st, t) {
+        if may_take(p, st, Kind::Admit, t) && is_alone(p, st, t) {
             return Some(t);
         }
     }
     None
 }
 
-/// Whether a task may be admitted.
-fn may_admit(p: &Prog, st: &State, t: u32) -> bool
+/// Whether a task may be admitted, or may run, as the kind says.
+fn may_take(p: &Prog, st: &State, kind: Kind, t: u32) -> bool
     requires { IsReachable p.now st.now }
-    ensures { IsTrue result ↔ MayAdmit st.now t }
+    ensures { IsTrue result ↔ MayTake st.now kind t }
 {
-    let admission = Move {
-        kind: Kind::Admit,
-        task: t,
-    };
-    may(p, st, admission).is_ok()
+    may(p, st, Move { kind, task: t }).is_ok()
 }

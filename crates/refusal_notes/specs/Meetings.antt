@@ -116,13 +116,13 @@ both_paths_text regions variables need other =
     quoted_written regions variables other.path ++ (codes " and " ++ quoted_written regions variables need.path)
 
 -- what the rule does not know
-unfoldable pub unknown_end : List written.Name → ℕ → List ℕ
-unknown_end variables local = codes " apart: it takes " ++ (named_text variables local ++ codes " as unknown")
+unfoldable pub undecided_end : List written.Name → ℕ → List ℕ
+undecided_end variables local = codes " apart: it takes " ++ (named_text variables local ++ codes " as unknown")
 
 -- the effects meet, or not, by the value of this local, which the rule does not know
-abbrev pub unknown_text : List (List ℕ) → List written.Name → ℕ → Effect → Effect → List ℕ
-unknown_text regions variables local need other =
-    codes "the rule cannot tell " ++ (both_paths_text regions variables need other ++ unknown_end variables local)
+abbrev pub undecided_text : List (List ℕ) → List written.Name → ℕ → Effect → Effect → List ℕ
+undecided_text regions variables local need other =
+    codes "the rule cannot tell " ++ (both_paths_text regions variables need other ++ undecided_end variables local)
 
 -- the effects meet nowhere
 abbrev pub nowhere_text : List ℕ
@@ -139,7 +139,7 @@ pub data MeetingDue (regions : List (List ℕ)) (cells : List CellDecl) (variabl
     (need other : Effect) : List ℕ → Type 0 where
   -- a local decides whether they meet, and they do for some values
   unknown : (local : ℕ) (met : Met) → deciding_local shared need other ≡ Some local → IsWhereMet shared need.path other.path met
-      → MeetingDue regions cells variables shared need other (unknown_text regions variables local need other)
+      → MeetingDue regions cells variables shared need other (undecided_text regions variables local need other)
   -- the parameters decide; for these values of theirs they meet at a cell, and it is of the first declaration that has such a cell
   at_cell : (always : Bool) (met : CellMet) → ParametersDecide shared need other always
       → IsFirstMet shared need.path other.path cells met

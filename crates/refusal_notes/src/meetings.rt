@@ -4,7 +4,7 @@ ghost use Rattle.std.specs.List.{All, flat_map};
 ghost use Rattle.effect_meeting.specs.Always.{deciding_local};
 ghost use Rattle.effect_meeting.specs.Cells.{IsNeverMet};
 ghost use Rattle.explain_pages.specs.names.Variables.{is_same_place};
-ghost use Rattle.refusal_notes.specs.Meetings.{IsMeetingTold, MeetingDue, ParametersDecide, all_values_of, all_values_text, both_paths_text, cell_index_text, cell_met_text, condition_text, given_text, more_given_texts, more_named_texts, named_text, nowhere_text, params_at, quoted_path, quoted_written, touch_text, unknown_end, unknown_text, verb_text, whatever_all, whatever_one, whatever_text, writers_text};
+ghost use Rattle.refusal_notes.specs.Meetings.{IsMeetingTold, MeetingDue, ParametersDecide, all_values_of, all_values_text, both_paths_text, cell_index_text, cell_met_text, condition_text, given_text, more_given_texts, more_named_texts, named_text, nowhere_text, params_at, quoted_path, quoted_written, touch_text, undecided_end, undecided_text, verb_text, whatever_all, whatever_one, whatever_text, writers_text};
 
 use effect_meeting::{
     CellMet, Met, ParamValue, always_interfere, deciding_local, first_cell, meeting_path,
@@ -286,9 +286,9 @@ fn push_both_paths(
 }
 
 /// Appends what the rule does not know.
-#[tactic(auto, unfolding(crate::specs::Meetings::unknown_end))]
-fn push_unknown_end(text: &mut Bytes, variables: &[Name], local: u32) -> Result<(), Memory>
-    ensures { OnOk result (text.new ≡ text.old ++ unknown_end variables.now local) }
+#[tactic(auto, unfolding(crate::specs::Meetings::undecided_end))]
+fn push_undecided_end(text: &mut Bytes, variables: &[Name], local: u32) -> Result<(), Memory>
+    ensures { OnOk result (text.new ≡ text.old ++ undecided_end variables.now local) }
 {
     text.push_all(b" apart: it takes ")?;
     push_named(text, variables, local)?;
@@ -296,7 +296,7 @@ fn push_unknown_end(text: &mut Bytes, variables: &[Name], local: u32) -> Result<
 }
 
 /// That the effects meet, or not, by the value of this local, which the rule does not know.
-fn unknown_text(
+fn undecided_text(
     alloc: Global,
     regions: &[Word],
     variables: &[Name],
@@ -304,11 +304,11 @@ fn unknown_text(
     need: &Effect,
     other: &Effect,
 ) -> Result<Bytes, Memory>
-    ensures { IfOk result (λ text. text ≡ unknown_text regions.now variables.now local need.now other.now) }
+    ensures { IfOk result (λ text. text ≡ undecided_text regions.now variables.now local need.now other.now) }
 {
     let mut text = Bytes::from_slice(alloc, b"the rule cannot tell ")?;
     push_both_paths(&mut text, regions, variables, need, other)?;
-    push_unknown_end(&mut text, variables, local)?;
+    push_undecided_end(&mut text, variables, local)?;
     Ok(text)
 }
 
@@ -341,7 +341,7 @@ fn local_remark(
             Ok(text)
         }
         Some(_met) => {
-            let text = unknown_text(alloc, regions, variables, local, need, other)?;
+            let text = undecided_text(alloc, regions, variables, local, need, other)?;
             Ok(text)
         }
     }
