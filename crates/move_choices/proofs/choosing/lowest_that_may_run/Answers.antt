@@ -8,7 +8,7 @@ use Rattle.move_choices.proofs.choosing.lowest_that_may_run.Goals as goal
 
 -- one more was looked at
 pub loop-t-preserved : goal.loop-t-preserved
-loop-t-preserved c = below_more _ _ c.loop-t.invariant (λ may. let yes = c.may_run.ensures.1 may in cc (yes, c.if-may_run.false))
+loop-t-preserved c = below_more _ _ c.loop-t.invariant (λ may. let yes = c.may_take.ensures.1 may in cc (yes, c.if-may_take.false))
 
 -- each task was looked at
 pub returns-clause-none : goal.returns-clause-none
